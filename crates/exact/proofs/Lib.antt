@@ -1,0 +1,12 @@
+pub mod Ring
+pub mod Mixing
+pub mod Lists
+pub mod Mirror
+pub mod Axes
+pub mod Curve
+pub mod Bernstein
+pub mod Near
+pub mod Fractions
+pub mod Carry
+pub mod Pile
+pub mod Anywhere

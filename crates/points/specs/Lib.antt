@@ -1,0 +1,4 @@
+pub mod Refusals
+pub mod Weights
+pub mod Parameters
+pub mod Points
