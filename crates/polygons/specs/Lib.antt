@@ -1,0 +1,3 @@
+pub mod Buffers
+pub mod Constructions
+pub mod Flatness
