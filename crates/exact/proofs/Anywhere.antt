@@ -12,8 +12,9 @@ use Rattle.exact.specs.Polygon.{degree, IsPoint}
 use Rattle.exact.specs.Fractions.{Fraction, WithinHalf}
 use Rattle.exact.specs.Curve.{exact}
 use Rattle.exact.specs.Workings.{Param, InRange, AllValid, Working, mixBy, fraction, pile, degreeOver, allowanceOver, carried}
-use Rattle.exact.specs.Accuracy.{StandsFor, Between}
+use Rattle.exact.specs.Accuracy.{StandsFor, least, greatest}
 use Rattle.exact.proofs.Axes.{point-on}
+use Rattle.exact.proofs.Box.{bounded}
 use Rattle.exact.proofs.Pile.{accurate, enclosed}
 
 -- f reads an axis of points of the kind A, whose mixing it respects at every weight
@@ -22,5 +23,5 @@ module _ {A : Type 0} (f : A → ℤ) (mx : ℕ → ℕ → A → A → A) (resp
   pub accurate-on : (a : ℕ) (D : List Fraction) → StandsFor (map f P) a D → WithinHalf (allowanceOver ws (degree (map f P)) a + degreeOver ws (degree (map f P))) (f r) (exact D (carried ws (fraction v)))
   accurate-on a D s = accurate (map f P) a D ws v (f r) (omega (arith, length-map P f)) valid ok s (point-on f mx mix respects ws P v r valid ok point)
 
-  pub enclosed-on : (l h : ℤ) → Between l h (map f P) → (l ≤ℤ f r) × (f r ≤ℤ h)
-  enclosed-on l h b = enclosed (map f P) ws v (f r) l h (omega (arith, length-map P f)) valid ok b (point-on f mx mix respects ws P v r valid ok point)
+  pub enclosed-on : (least (map f P) ≤ℤ f r) × (f r ≤ℤ greatest (map f P))
+  enclosed-on = enclosed (map f P) ws v (f r) (least (map f P)) (greatest (map f P)) (omega (arith, length-map P f)) valid ok (bounded (map f P)) (point-on f mx mix respects ws P v r valid ok point)

@@ -10,3 +10,4 @@ pub mod Fractions
 pub mod Carry
 pub mod Pile
 pub mod Anywhere
+pub mod Box

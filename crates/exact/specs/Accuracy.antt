@@ -1,10 +1,11 @@
 -- The accuracy of a point that a pile of workings gives.
 use Prim.Native.Nat.{ℕ, _+_, _<_}
 use mathlib.Core.Path.{_≡_}
-use mathlib.Core.List.{List}
+use mathlib.Core.List.{List, [], _∷_}
 use lib.ListN.{length, getD}
 use lib.IntN.{ℤ, pos}
 use lib.Signed.{_≤ℤ_}
+use Rattle.std.specs.Numbers.{minZ, maxZ}
 use Rattle.exact.specs.Mixing.{mix}
 use Rattle.exact.specs.Polygon.{degree, IsPoint}
 use Rattle.exact.specs.Fractions.{Fraction, WithinHalf}
@@ -27,7 +28,24 @@ Accurate = (P : List ℤ) (a : ℕ) (D : List Fraction) (ws : List Working) (v :
     0 < length P → AllValid ws → InRange v → StandsFor P a D → IsPoint (mixBy mix v) (pile mix ws P) r →
     WithinHalf (allowanceOver ws (degree P) a + degreeOver ws (degree P)) r (exact D (carried ws (fraction v)))
 
--- It lies between any bounds of the points P.
+-- It lies between any bounds of the points P, so between their least and their greatest.
 abbrev pub Enclosed : Type 0
 Enclosed = (P : List ℤ) (ws : List Working) (v : Param) (r l h : ℤ) →
     0 < length P → AllValid ws → InRange v → Between l h P → IsPoint (mixBy mix v) (pile mix ws P) r → (l ≤ℤ r) × (r ≤ℤ h)
+
+-- the least and the greatest of some values
+abbrev pub leastOf : ℤ → List ℤ → ℤ
+leastOf x [] = x
+leastOf x (y ∷ P) = minZ x (leastOf y P)
+
+abbrev pub greatestOf : ℤ → List ℤ → ℤ
+greatestOf x [] = x
+greatestOf x (y ∷ P) = maxZ x (greatestOf y P)
+
+abbrev pub least : List ℤ → ℤ
+least [] = pos 0
+least (x ∷ P) = leastOf x P
+
+abbrev pub greatest : List ℤ → ℤ
+greatest [] = pos 0
+greatest (x ∷ P) = greatestOf x P

@@ -7,7 +7,7 @@ ghost use borrow.Author.Differences.{up, down};
 ghost use Rattle.polygons.specs.Flatness.{offBy, FirstOff, Tested};
 use points::fault::Fault;
 use points::kind::Kind;
-use crate::level::test_size;
+use crate::size::test_size;
 
 // Whether a polygon is flat; if not, its first point that is off, and the first axis on it.
 #[derive(Clone, Copy, PartialEq, Eq, Debug)]

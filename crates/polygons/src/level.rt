@@ -6,20 +6,10 @@ ghost use Rattle.points.specs.Points.{mixPoint};
 ghost use Rattle.polygons.specs.Buffers.{sized, scaled, Puts, Weighs};
 ghost use Rattle.polygons.specs.Constructions.{Passed, levelAbove};
 use points::fault::Fault;
-use points::fault::Refusal;
 use points::kind::Kind;
 use points::parameter::Parameter;
 use points::weight::Weight;
-
-// A polygon has 2 to 17 points; else refusal 3.
-pub(crate) fn test_size(points: usize) -> Result<(), Fault>
-    ensures { λ r. ⌜ r ≡ sized points ⌝ }
-{
-    if points < 2 || points > 17 {
-        return Err(Fault::new(Refusal::Degree, points));
-    }
-    Ok(())
-}
+use crate::size::test_size;
 
 // The tests of a call on a polygon at a parameter: 1, then 3.
 pub(crate) fn test_call(t: Parameter, points: usize) -> Result<Weight, Fault>

@@ -1,4 +1,5 @@
 // The constructions on control polygons, in place on slices of points of any kind.
+pub mod size;
 pub mod level;
 pub mod subdivision;
 pub mod elevation;

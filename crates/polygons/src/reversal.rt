@@ -5,7 +5,7 @@ ghost use Rattle.polygons.specs.Buffers.{sized, Puts};
 ghost use Rattle.polygons.specs.Constructions.{turned};
 use points::fault::Fault;
 use points::kind::Kind;
-use crate::level::test_size;
+use crate::size::test_size;
 
 // The points in the other order.
 pub fn turn<K: Kind>(polygon: &mut [K]) -> Result<(), Fault>

@@ -26,6 +26,13 @@ use Rattle.workings.specs.declared.working.Working.the-variants.{Left, Right, 
 use Rattle.workings.specs.Workings.{place, step, shape, degreeAfter, tested, roomy}
 use Rattle.workings.proofs.Tests.{err-ok}
 
+-- no working lowers the degree
+pub grows : (w : Working) (n : ℕ) → n ≤ degreeAfter w n
+grows (Left t) n = omega arith
+grows (Right t) n = omega arith
+grows Raise n = omega arith
+grows Turn n = omega arith
+
 -- a working makes a polygon of its degree
 pub length-shape : (w : Working) (ps : List Point) → 1 ≤ length ps → length (shape w ps) ≡ degreeAfter w (length ps - 1) + 1
 length-shape (Left t) ps h = length-firsts (exact.mixBy mixPoint (place t)) (length ps) ps refl ∙ omega arith

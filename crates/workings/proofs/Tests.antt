@@ -67,3 +67,33 @@ after-ok w s t e =
 -- the same, with its test
 pub after-tested : (w : Working) (s t : Survey) → after w s ≡ Ok t → tested w (s .degree) ≡ Ok (t .degree)
 after-tested w s t e = charged-ok w s t (tested w (s .degree)) e .0
+
+-- a refusal of a working is never that of a short buffer
+abbrev NotShort : Fault → Type 0
+NotShort f = f .refusal ≡ Short → ⊥
+
+refusing : {A : Type 0} (b : Bool) (g f : Fault) (r : Result A Fault) → NotShort g → (r ≡ Err f → NotShort f) → cond b (Err g) r ≡ Err f → NotShort f
+refusing true g f r n k e s = let q : g .refusal ≡ f .refusal = cc in n (q ∙ s)
+refusing false g f r n k e s = k e s
+
+ok-err : {A B : Type 0} (x : A) (f : Fault) → _≡_ {A = Result A Fault} (Ok x) (Err f) → B
+ok-err x f e = let z : _≡_ {A = ℕ} 0 1 = cc in absurd (omega arith)
+
+scale-no : OffScale ≡ Short → ⊥
+scale-no e = let z : _≡_ {A = ℕ} 0 1 = cc in omega arith
+
+degree-no : Degree ≡ Short → ⊥
+degree-no e = let z : _≡_ {A = ℕ} 0 1 = cc in omega arith
+
+worn-no : Worn ≡ Short → ⊥
+worn-no e = let z : _≡_ {A = ℕ} 0 1 = cc in omega arith
+
+tested-err : (w : Working) (n : ℕ) (f : Fault) → tested w n ≡ Err f → NotShort f
+tested-err w n f = refusing (offScaleIn w) (refuse OffScale 0) f _ scale-no (refusing (ltb n 1 || ltb 16 n) (refuse Degree n) f _ degree-no (refusing (ltb 16 (degreeAfter w n)) (refuse Degree (degreeAfter w n)) f _ degree-no (ok-err (degreeAfter w n) f)))
+
+charged-err : (w : Working) (s : Survey) (r : Result ℕ Fault) (f : Fault) → (r ≡ Err f → NotShort f) → charged w s r ≡ Err f → NotShort f
+charged-err w s (Err g) f k e = k (let q : g ≡ f = cc in ap Err q)
+charged-err w s (Ok n) f k e = refusing (ltb 65535 (s .allowance + chargeOf w (s .degree))) (refuse Worn (chargeOf w (s .degree))) f _ worn-no (ok-err _ f) e
+
+pub after-err : (w : Working) (s : Survey) (f : Fault) → after w s ≡ Err f → f .refusal ≡ Short → ⊥
+after-err w s f e = charged-err w s (tested w (s .degree)) f (tested-err w (s .degree) f) e

@@ -1,0 +1,42 @@
+ghost use mathlib.Core.Path.{_≡_};
+ghost use Rattle.sources.specs.Piles.{work};
+ghost use Rattle.sources.specs.Sounds.{workSound};
+use points::fault::Fault;
+use points::fault::Refusal;
+use points::kind::Kind;
+use workings::survey::Survey;
+use workings::working::Working;
+use crate::climbing::climb;
+use crate::source::Source;
+
+// A working over a source, which is a source again, so that workings pile up.
+#[derive(Drop)]
+pub struct Worked<S> {
+    pub below: S,
+    pub working: Working,
+}
+
+pub impl<S: Source> Source for Worked<S> as WorkedSource {
+    type K = S::K;
+
+    ghost means = { λ s. work (s .working) (S·Source .means (s .below)) };
+
+    ghost sound = { λ s. workSound (s .working) (S·Source .means (s .below)) (S·Source .sound (s .below)) };
+
+    fn survey(&self) -> Result<Survey, Fault> {
+        let s = climb(self.below.survey())?;
+        self.working.after(s)
+    }
+
+    // Its own faults are tested before the source below draws, since a refused draw writes nothing.
+    fn draw(&self, buffer: &mut [S::K]) -> Result<Survey, Fault> {
+        let s = climb(self.below.survey())?;
+        let t = self.working.after(s)?;
+        if buffer.len() < t.reach {
+            return Err(Fault::new(Refusal::Short, t.reach));
+        }
+        climb(self.below.draw(buffer))?;
+        self.working.apply(buffer, s.degree)?;
+        Ok(t)
+    }
+}
