@@ -1,0 +1,31 @@
+-- What a job comes to.
+use Prim.Native.Nat.{ℕ, _<_}
+use mathlib.Core.Path.{_≡_}
+use mathlib.Core.List.{List, map}
+use lib.ListN.{length, take, getD}
+use Rattle.std.specs.declared.option.Option.{Option}
+use Rattle.std.specs.declared.option.Option.the-variants.{Some, None}
+use Rattle.std.specs.declared.result.Result.{Result}
+use Rattle.std.specs.declared.result.Result.the-variants.{Ok, Err}
+use Rattle.points.specs.declared.fault.Fault.{Fault}
+use Rattle.points.specs.Points.{Point}
+use Rattle.workings.specs.declared.working.Working.{Working}
+use Rattle.sources.specs.Meaning.{Meaning}
+use Rattle.strands.specs.States.{State, state, loadOf, reworkOf}
+use Rattle.strands.specs.Histories.{works, Reaches}
+use Rattle.jobs.specs.declared.job.Job.{Job}
+
+-- all workings were done, or the next one is refused by the strand as it stands
+abbrev pub Stopped : {X : Type 0} → List Working → ℕ → Option Fault → State X → Type 0
+Stopped ws n None s = n ≡ length ws
+Stopped ws n (Some f) s = (n < length ws) × ((w : Working) → reworkOf (getD ws n w) s ≡ Err f)
+
+-- the first n of the workings ws were accepted by the strand that a source which means m was loaded into, one after another, and then it stopped
+pub record Ran {X : Type 0} (c : X → Point) (m : Meaning) (ws : List Working) (n : ℕ) (f : Option Fault) (s : State X) : Type 0 where
+  pub done : Reaches c m (map works (take n ws)) (take n ws) s
+  pub stopped : Stopped ws n f s
+
+-- the answer of a job, and its buffer before and after
+abbrev pub Answers : {X : Type 0} → (X → Point) → Meaning → List Working → List X → List X → Result Job Fault → Type 0
+Answers c m ws before after (Ok j) = Ran c m ws (j .done) (j .fault) (state (j .strand) after)
+Answers c m ws before after (Err f) = (loadOf m (length before) ≡ Err f) × (after ≡ before)
