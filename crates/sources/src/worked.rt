@@ -1,5 +1,7 @@
 ghost use mathlib.Core.Path.{_≡_};
-ghost use Rattle.sources.specs.Piles.{work};
+ghost use lib.ListN.{length};
+ghost use Rattle.sources.specs.Meaning.{drawOf, Laid};
+ghost use Rattle.sources.specs.Piles.{climbing, work};
 ghost use Rattle.sources.specs.Sounds.{workSound};
 use points::fault::Fault;
 use points::fault::Refusal;
@@ -8,6 +10,14 @@ use workings::survey::Survey;
 use workings::working::Working;
 use crate::climbing::climb;
 use crate::source::Source;
+
+// The source below draws; its fault climbs.
+fn draw_below<S: Source>(below: &S, buffer: &mut [S::K]) -> Result<Survey, Fault>
+    ensures answer { λ r. ⌜ r ≡ climbing (drawOf (means (now (below .entry))) (length (now (buffer .entry)))) ⌝ }
+    ensures laid { λ _. ⌜ Laid (K·Kind .coord) (means (now (below .entry))) (now (buffer .entry)) (now (buffer .exit)) ⌝ }
+{
+    climb(below.draw(buffer))
+}
 
 // A working over a source, which is a source again, so that workings pile up.
 #[derive(Drop)]
@@ -35,7 +45,7 @@ pub impl<S: Source> Source for Worked<S> as WorkedSource {
         if buffer.len() < t.reach {
             return Err(Fault::new(Refusal::Short, t.reach));
         }
-        climb(self.below.draw(buffer))?;
+        draw_below(&self.below, buffer)?;
         self.working.apply(buffer, s.degree)?;
         Ok(t)
     }

@@ -18,5 +18,5 @@ returns-in-Break-t g c =
 
 pub returns : need.returns
 returns g c =
-    let d = draw-work (g .K·Kind .coord) (c .args .self .now .working) (g .S·Source .means (c .args .self .now .below)) (c .in-Continue-s .s) (c .in-Continue-t .t) (c .args .buffer .now) (c .draw .last .buffer) (c .apply .last .buffer) (g .S·Source .sound (c .args .self .now .below)) (c .in-Continue-s .ensures tt ∙ ap climbing (c .survey .ensures)) (sym (c .in-Continue-t .ensures tt)) (c .if-buffer-t .left) (c .draw .ensures .laid) (c .in-Continue-apply .ensures tt .worked) in
+    let d = draw-work (g .K·Kind .coord) (c .args .self .now .working) (g .S·Source .means (c .args .self .now .below)) (c .in-Continue-s .s) (c .in-Continue-t .t) (c .args .buffer .now) (c .draw-below .last .buffer) (c .apply .last .buffer) (g .S·Source .sound (c .args .self .now .below)) (c .in-Continue-s .ensures tt ∙ ap climbing (c .survey .ensures)) (sym (c .in-Continue-t .ensures tt)) (c .if-buffer-t .left) (c .draw-below .ensures .laid) (c .in-Continue-apply .ensures tt .worked) in
     record { answer = d .0; laid = d .1 }
