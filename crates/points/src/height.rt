@@ -1,4 +1,5 @@
-ghost use Rattle.points.specs.Points.{height, Same};
+ghost use mathlib.Core.Path.{_≡_};
+ghost use Rattle.points.specs.Points.{mixed, height, Same};
 use crate::kind::Kind;
 use crate::kind::same;
 use crate::mixing::mix_axis;
@@ -8,6 +9,12 @@ use crate::weight::Weight;
 #[derive(Clone, Copy, Debug)]
 pub struct Height {
     pub z: i32,
+}
+
+fn mix_height(p: Height, q: Height, w: Weight) -> Height
+    ensures { λ r. ⌜ r .z ≡ mixed (w .num) (w .den) (p .z) (q .z) ⌝ }
+{
+    Height { z: mix_axis(p.z, q.z, w) }
 }
 
 pub impl Kind for Height as HeightKind {
@@ -24,7 +31,7 @@ pub impl Kind for Height as HeightKind {
     }
 
     fn mix(p: Height, q: Height, w: Weight) -> Height {
-        Height { z: mix_axis(p.z, q.z, w) }
+        mix_height(p, q, w)
     }
 }
 

@@ -18,19 +18,26 @@ fn shifted_back(n: u64) -> i32
     (n as i64 - 2147483648) as i32
 }
 
-fn mix_shifted(u: u64, v: u64, w: Weight) -> u64
+// The sum that mixing divides, 2·N + d.
+fn weighed(u: u64, v: u64, w: Weight) -> u64
     requires { ⌜ (u < 4294967296) × (v < 4294967296) ⌝ }
-    ensures { λ r. ⌜ (r ≡ (2 * ((w .den - w .num) * u + w .num * v) + w .den) / (2 * w .den)) × (r < 4294967296) ⌝ }
+    ensures { λ r. ⌜ r ≡ 2 * ((w .den - w .num) * u + w .num * v) + w .den ⌝ }
 {
     let num = w.num as u64;
     let den = w.den as u64;
-    let sum = 2 * ((den - num) * u + num * v) + den;
-    sum / (2 * den)
+    2 * ((den - num) * u + num * v) + den
+}
+
+// The sum divided by 2·d. It is not negative, so the quotient is the floor.
+fn divided(sum: u64, w: Weight) -> u64
+    ensures { λ r. ⌜ r ≡ sum / (2 * w .den) ⌝ }
+{
+    sum / (2 * (w.den as u64))
 }
 
 // One axis value mixed: the floor of (2·N + d) / (2·d), where N = (d − w)·p + w·q.
 pub fn mix_axis(p: i32, q: i32, w: Weight) -> i32
     ensures { λ r. ⌜ r ≡ mixed (w .num) (w .den) p q ⌝ }
 {
-    shifted_back(mix_shifted(shifted(p), shifted(q), w))
+    shifted_back(divided(weighed(shifted(p), shifted(q), w), w))
 }

@@ -1,4 +1,5 @@
-ghost use Rattle.points.specs.Points.{planar, Same};
+ghost use mathlib.Core.Path.{_≡_};
+ghost use Rattle.points.specs.Points.{mixed, planar, Same};
 use crate::kind::Kind;
 use crate::kind::same;
 use crate::mixing::mix_axis;
@@ -9,6 +10,12 @@ use crate::weight::Weight;
 pub struct Planar {
     pub x: i32,
     pub y: i32,
+}
+
+fn mix_planar(p: Planar, q: Planar, w: Weight) -> Planar
+    ensures { λ r. ⌜ (r .x ≡ mixed (w .num) (w .den) (p .x) (q .x)) × (r .y ≡ mixed (w .num) (w .den) (p .y) (q .y)) ⌝ }
+{
+    Planar { x: mix_axis(p.x, q.x, w), y: mix_axis(p.y, q.y, w) }
 }
 
 pub impl Kind for Planar as PlanarKind {
@@ -29,7 +36,7 @@ pub impl Kind for Planar as PlanarKind {
     }
 
     fn mix(p: Planar, q: Planar, w: Weight) -> Planar {
-        Planar { x: mix_axis(p.x, q.x, w), y: mix_axis(p.y, q.y, w) }
+        mix_planar(p, q, w)
     }
 }
 

@@ -2,12 +2,21 @@ ghost use Prim.Native.Nat.{ℕ, _≤_, _<_, _+_, _-_};
 ghost use mathlib.Core.Path.{_≡_};
 ghost use mathlib.Core.List.{map};
 ghost use lib.ListN.{length, take};
+ghost use Rattle.points.specs.Points.{mixPoint};
 ghost use Rattle.polygons.specs.Buffers.{raisable, Puts};
 ghost use Rattle.polygons.specs.Constructions.{raised};
 use points::fault::Fault;
 use points::fault::Refusal;
 use points::kind::Kind;
 use points::weight::Weight;
+
+// Point i of the raised polygon of degree d: P(i) and P(i − 1) mixed by i/d.
+fn raised_point<K: Kind>(here: K, before: K, i: usize, d: usize) -> K
+    requires { ⌜ (i ≤ d) × (1 ≤ d) × (d ≤ 17) ⌝ }
+    ensures { λ r. ⌜ coord r ≡ mixPoint i d (coord here) (coord before) ⌝ }
+{
+    K::mix(here, before, Weight { num: i as u16, den: d as u16 })
+}
 
 // One degree more, from the top down. The last place is free, the ones before it hold the polygon.
 fn raise_all<K: Kind>(p: &mut [K])
@@ -17,8 +26,7 @@ fn raise_all<K: Kind>(p: &mut [K])
     let d = p.len() - 1;
     p[d] = p[d - 1];
     for i in (1..d).rev() {
-        let w = Weight { num: i as u16, den: d as u16 };
-        p[i] = K::mix(p[i], p[i - 1], w);
+        p[i] = raised_point(p[i], p[i - 1], i, d);
     }
 }
 

@@ -20,7 +20,7 @@ loop-i-again g c =
     let long : length p ≡ length (c .args .p .now) = c .loop-i .kept .p ∙ length-set _ _ _ in
     let b = c .index-p-i in
     let a = c .index-p-i-in-loop-i in
-    (omega arith, top-more co (raising d) d _ p (i - 1) (c .mix .result) (a .result) (b .result) i (omega arith) (omega arith) (omega arith) (c .loop-i .inv .1) (read-is co p (i - 1 - 1) (a .result) (omega arith) (a .is)) (read-is co p (i - 1) (b .result) (omega arith) (b .is)) (c .mix .ensures))
+    (omega arith, top-more co (raising d) d _ p (i - 1) (c .raised-point .result) (a .result) (b .result) i (omega arith) (omega arith) (omega arith) (c .loop-i .inv .1) (read-is co p (i - 1 - 1) (a .result) (omega arith) (a .is)) (read-is co p (i - 1) (b .result) (omega arith) (b .is)) (c .raised-point .ensures))
 
 pub returns : need.returns
 returns g c =
