@@ -1,1 +1,2 @@
 pub mod Bites
+pub mod Values

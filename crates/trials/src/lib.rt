@@ -4,12 +4,10 @@ mod table;
 #[cfg(test)]
 mod mixing;
 #[cfg(test)]
-mod polygons;
-#[cfg(test)]
-mod heights;
-#[cfg(test)]
-mod planars;
-#[cfg(test)]
-mod samples;
-#[cfg(test)]
 mod refusals;
+#[cfg(test)]
+mod piles;
+#[cfg(test)]
+mod strands;
+#[cfg(test)]
+mod opening;

@@ -26,7 +26,7 @@ const HALF: Parameter = Parameter { a: 1, k: 1 };
 const NINE: Height = Height { z: 9 };
 
 // A refusal with its number and its place, on storey 0.
-fn refused<T: Drop>(r: Result<T, Fault>, number: u8, place: usize) -> Result<(), Fail> {
+pub fn refused<T: Drop>(r: Result<T, Fault>, number: u8, place: usize) -> Result<(), Fail> {
     match r {
         Ok(_) => Err(Fail::new("not refused")),
         Err(f) => {

@@ -24,7 +24,7 @@ pub impl Made for Planar as PlanarMade {
     }
 }
 
-// A press out of range is stored as it is, so far as the record can hold it.
+// A press over 4,095 is stored as it is, so far as the record can hold it.
 pub impl Made for Sample as SampleMade {
     fn made(axes: [i32; 3]) -> Sample {
         let press = u16::try_from(axes[2]).unwrap_or(0);

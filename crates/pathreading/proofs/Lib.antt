@@ -1,0 +1,4 @@
+mod Numbers
+pub mod Many
+pub mod Says
+pub mod Opens
