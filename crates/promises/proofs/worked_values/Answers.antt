@@ -1,0 +1,7 @@
+use mathlib.Core.Path.{refl}
+use Rattle.points.specs.Points.{mixed}
+use Rattle.promises.proofs.worked_values.Needs as need
+
+pub returns : need.returns
+unfolding mixed
+returns c = record { up = refl; not-away = refl; ends = refl; point = refl; raise = refl }
