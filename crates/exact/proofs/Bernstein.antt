@@ -46,12 +46,14 @@ module _ (s t : ℕ) where
   weight-next n i =
       let e : s ^ (suc n - suc i) ≡ s ^ (n - i) = ap (λ k. s ^ k) (omega arith) in
       elim (decLt i n) [
-        yes h ↦ (let f : s ^ (n - i) ≡ s * s ^ (n - suc i) = ap (λ k. s ^ k) (omega arith) ∙ pow-succ' s (n - suc i) in
-          rw (e, f, pow-succ' t i) (inside (choose n i) (choose n (suc i)) (s ^ (n - suc i)) (t ^ i)))
-      | no h ↦ rw (e, choose-past n (suc i) (omega arith), pow-succ' t i) (outside (choose n i) (s ^ (n - i)) (s ^ (n - suc i)) (t ^ i)) ]
+        | yes h ↦ (let f : s ^ (n - i) ≡ s * s ^ (n - suc i) = ap (λ k. s ^ k) (omega arith) ∙ pow-succ' s (n - suc i) in
+            rw (e, f, pow-succ' t i) (inside (choose n i) (choose n (suc i)) (s ^ (n - suc i)) (t ^ i)))
+        | no h ↦ rw (e, choose-past n (suc i) (omega arith), pow-succ' t i) (outside (choose n i) (s ^ (n - i)) (s ^ (n - suc i)) (t ^ i))
+      ]
     where
       inside : (a b S T : ℕ) → (a + b) * (s * S) * (t * T) ≡ s * (b * S * (t * T)) + t * (a * (s * S) * T)
       inside a b S T = omega arith
+
       outside : (a S S′ T : ℕ) → (a + 0) * S * (t * T) ≡ s * (0 * S′ * (t * T)) + t * (a * S * T)
       outside a S S′ T = omega arith
 
@@ -59,18 +61,21 @@ module _ (s t : ℕ) where
   H-step n X =
       sum-front n (λ i. pos (weight s t (suc n) i) *ℤ X i)
       ∙ ap₂ _+ℤ_
-        (ap (λ k. pos k *ℤ X 0) (weight-first n) ∙ *ℤ-assoc (pos s) (pos (weight s t n 0)) (X 0))
-        (sum-cong n _ (λ i. blend s t (g (suc i)) (pos (weight s t n i) *ℤ X (suc i))) (λ i h. ap (λ k. pos k *ℤ X (suc i)) (weight-next n i) ∙ apart (pos s) (pos (weight s t n (suc i))) (pos t) (pos (weight s t n i)) (X (suc i)))
-          ∙ sum-blend s t n (λ i. g (suc i)) (λ i. pos (weight s t n i) *ℤ X (suc i)))
+      (ap (λ k. pos k *ℤ X 0) (weight-first n) ∙ *ℤ-assoc (pos s) (pos (weight s t n 0)) (X 0))
+      (sum-cong n _ (λ i. blend s t (g (suc i)) (pos (weight s t n i) *ℤ X (suc i))) (λ i h. ap (λ k. pos k *ℤ X (suc i)) (weight-next n i) ∙ apart (pos s) (pos (weight s t n (suc i))) (pos t) (pos (weight s t n i)) (X (suc i)))
+      ∙ sum-blend s t n (λ i. g (suc i)) (λ i. pos (weight s t n i) *ℤ X (suc i)))
       ∙ gather (pos s) (g 0) (sumTo _+ℤ_ n (λ i. g (suc i))) (pos t *ℤ H s t n (λ i. X (suc i)))
       ∙ ap (λ x. blend s t x (H s t n (λ i. X (suc i)))) (sym (sum-front n g) ∙ ap (λ k. H s t n X +ℤ pos k *ℤ X (suc n)) (past n) ∙ ap (λ x. H s t n X +ℤ x) (zero-*ℤ (X (suc n))) ∙ +ℤ-idr (H s t n X))
     where
       g : ℕ → ℤ
       g i = pos (weight s t n i) *ℤ X i
+
       apart : (s a t b x : ℤ) → (s *ℤ a +ℤ t *ℤ b) *ℤ x ≡ s *ℤ (a *ℤ x) +ℤ t *ℤ (b *ℤ x)
       apart s a t b x = simp ring
+
       gather : (s a b c : ℤ) → s *ℤ a +ℤ (s *ℤ b +ℤ c) ≡ s *ℤ (a +ℤ b) +ℤ c
       gather s a b c = simp ring
+
       past : (n : ℕ) → weight s t n (suc n) ≡ 0
       past n = rw (choose-past n (suc n) (omega arith)) (omega arith)
 

@@ -43,8 +43,10 @@ is-difference f g x y M h k = record { same = out (f .num) (pos (f .den)) (g .nu
   where
     minus : (a b c d : ℤ) → a *ℤ b *ℤ c -ℤ d ≡ a *ℤ c *ℤ b -ℤ d
     minus a b c d = ap (λ x. x -ℤ d) (simp ring)
+
     right-neg : (a b : ℤ) → negℤ a *ℤ b ≡ negℤ (a *ℤ b)
     right-neg a b = lib.IntN.*ℤ-comm (negℤ a) b ∙ *ℤ-neg b a ∙ ap negℤ (lib.IntN.*ℤ-comm b a)
+
     out : (a b c d m x y : ℤ) → a *ℤ m ≡ x *ℤ b → c *ℤ m ≡ y *ℤ d → (a *ℤ d -ℤ c *ℤ b) *ℤ m ≡ (x -ℤ y) *ℤ (b *ℤ d)
     out a b c d m x y e f =
         *ℤ-distrib-r (a *ℤ d) (negℤ (c *ℤ b)) m
@@ -53,8 +55,10 @@ is-difference f g x y M h k = record { same = out (f .num) (pos (f .den)) (g .nu
       where
         swap : (a b c : ℤ) → a *ℤ b *ℤ c ≡ a *ℤ c *ℤ b
         swap a b c = simp ring
+
         fold : (a b c : ℤ) → a *ℤ b *ℤ c ≡ a *ℤ (b *ℤ c)
         fold a b c = simp ring
+
         fold′ : (a b c : ℤ) → a *ℤ b *ℤ c ≡ a *ℤ (c *ℤ b)
         fold′ a b c = simp ring
 
@@ -69,14 +73,15 @@ goes-is : (W : Window) (a b : Share) (B : ℕ) (t : Fraction) (u : Share) → Sp
 goes-is W a b B t u w h =
     is-as (mixed (pos (u .rest)) (pos (u .part)) (pos (a .part)) (pos (b .part))) (total (both a) (w .start-sum) (w .end-sum))
     (is-sum (W .start) (t ⊗ (W .end ⊖ W .start)) (pos (both u) *ℤ pos (a .part)) (pos (u .part) *ℤ (pos (b .part) -ℤ pos (a .part))) (both u * B)
-      (is-scale (both u) (W .start) (pos (a .part)) B (w .start-is))
-      (is-product t (W .end ⊖ W .start) (pos (u .part)) (pos (b .part) -ℤ pos (a .part)) (both u) B h (is-difference (W .end) (W .start) (pos (b .part)) (pos (a .part)) B (w .end-is) (w .start-is))))
+    (is-scale (both u) (W .start) (pos (a .part)) B (w .start-is))
+    (is-product t (W .end ⊖ W .start) (pos (u .part)) (pos (b .part) -ℤ pos (a .part)) (both u) B h (is-difference (W .end) (W .start) (pos (b .part)) (pos (a .part)) B (w .end-is) (w .start-is))))
   where
     mixed : (s t a b : ℤ) → (s +ℤ t) *ℤ a +ℤ t *ℤ (b -ℤ a) ≡ s *ℤ a +ℤ t *ℤ b
     mixed s t a b = ap₂ _+ℤ_ (*ℤ-distrib-r s t a) (*ℤ-distrib-l t b (negℤ a) ∙ ap (λ x. t *ℤ b +ℤ x) (*ℤ-neg t a)) ∙ cancel (s *ℤ a) (t *ℤ a) (t *ℤ b)
       where
         cancel : (x y z : ℤ) → x +ℤ y +ℤ (z +ℤ negℤ y) ≡ x +ℤ z
         cancel x y z = omega (arith, ints)
+
     total : (A : ℕ) → a .rest + a .part ≡ B → b .rest + b .part ≡ B → both u * B ≡ both (through a b u)
     total A e f = omega (arith, ap (λ x. u .rest * x) e, ap (λ x. u .part * x) f)
 
@@ -105,37 +110,37 @@ times-both k a B e = omega (arith, ap (λ x. k * x) e)
 
 moves : (w : Working) (W : Window) (a b : Share) (B : ℕ) → Valid w → Spans W a b B → Moves w W a b
 moves (leftAt v) W a b B ok h = record {
-    a′ = times (both (ofParam v)) a;
-    b′ = through a b (ofParam v);
-    B′ = both (ofParam v) * B;
-    spans = record {
-      start-sum = times-both (both (ofParam v)) a B (h .start-sum);
-      end-sum = through-both a b (ofParam v) B (h .start-sum) (h .end-sum);
-      start-is = is-scale (both (ofParam v)) (W .start) (pos (a .part)) B (h .start-is);
-      end-is = is-as refl (through-both a b (ofParam v) B (h .start-sum) (h .end-sum)) (goes-is W a b B (fraction v) (ofParam v) h (weight-is v ok))
-    };
-    same = λ u. share-path (omega arith) (omega arith)
-  }
+  a′ = times (both (ofParam v)) a;
+  b′ = through a b (ofParam v);
+  B′ = both (ofParam v) * B;
+  spans = record {
+    start-sum = times-both (both (ofParam v)) a B (h .start-sum);
+    end-sum = through-both a b (ofParam v) B (h .start-sum) (h .end-sum);
+    start-is = is-scale (both (ofParam v)) (W .start) (pos (a .part)) B (h .start-is);
+    end-is = is-as refl (through-both a b (ofParam v) B (h .start-sum) (h .end-sum)) (goes-is W a b B (fraction v) (ofParam v) h (weight-is v ok));
+  };
+  same = λ u. share-path (omega arith) (omega arith);
+}
 moves (rightAt v) W a b B ok h = record {
-    a′ = through a b (ofParam v);
-    b′ = times (both (ofParam v)) b;
-    B′ = both (ofParam v) * B;
-    spans = record {
-      start-sum = through-both a b (ofParam v) B (h .start-sum) (h .end-sum);
-      end-sum = times-both (both (ofParam v)) b B (h .end-sum);
-      start-is = is-as refl (through-both a b (ofParam v) B (h .start-sum) (h .end-sum)) (goes-is W a b B (fraction v) (ofParam v) h (weight-is v ok));
-      end-is = is-scale (both (ofParam v)) (W .end) (pos (b .part)) B (h .end-is)
-    };
-    same = λ u. share-path (omega arith) (omega arith)
-  }
+  a′ = through a b (ofParam v);
+  b′ = times (both (ofParam v)) b;
+  B′ = both (ofParam v) * B;
+  spans = record {
+    start-sum = through-both a b (ofParam v) B (h .start-sum) (h .end-sum);
+    end-sum = times-both (both (ofParam v)) b B (h .end-sum);
+    start-is = is-as refl (through-both a b (ofParam v) B (h .start-sum) (h .end-sum)) (goes-is W a b B (fraction v) (ofParam v) h (weight-is v ok));
+    end-is = is-scale (both (ofParam v)) (W .end) (pos (b .part)) B (h .end-is);
+  };
+  same = λ u. share-path (omega arith) (omega arith);
+}
 moves raised W a b B ok h = record { a′ = a; b′ = b; B′ = B; spans = h; same = λ u. refl }
 moves turned W a b B ok h = record {
-    a′ = b;
-    b′ = a;
-    B′ = B;
-    spans = record { start-sum = h .end-sum; end-sum = h .start-sum; start-is = h .end-is; end-is = h .start-is };
-    same = λ u. share-path (omega arith) (omega arith)
-  }
+  a′ = b;
+  b′ = a;
+  B′ = B;
+  spans = record { start-sum = h .end-sum; end-sum = h .start-sum; start-is = h .end-is; end-is = h .start-is };
+  same = λ u. share-path (omega arith) (omega arith);
+}
 
 window-is : (ws : List Working) (W : Window) (a b : Share) (B : ℕ) (t : Fraction) (u : Share) → AllValid ws → Spans W a b B → Is t (pos (u .part)) (both u) → Is (goes (window ws W) t) (pos (through a b (backs ws u) .part)) (both (through a b (backs ws u)))
 window-is [] W a b B t u o h k = goes-is W a b B t u h k

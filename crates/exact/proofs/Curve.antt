@@ -89,9 +89,9 @@ module _ (σ τ s t : ℕ) where
   C-left (suc n) X =
       ap₂ (blend s t)
       (C-cong s t n _ (λ i. pos (σ + τ) *ℤ leftX σ τ n X i) (λ i h. ap (λ k. pos k *ℤ levelAt (blend σ τ) X i 0) (pow-less (σ + τ) n i h) ∙ *ℤ-assoc (pos (σ + τ)) (pos ((σ + τ) ^ (n - i))) (levelAt (blend σ τ) X i 0))
-        ∙ C-scale s t (σ + τ) n (leftX σ τ n X) ∙ ap (λ x. pos (σ + τ) *ℤ x) (C-left n X))
+      ∙ C-scale s t (σ + τ) n (leftX σ τ n X) ∙ ap (λ x. pos (σ + τ) *ℤ x) (C-left n X))
       (C-cong s t n _ (λ i. blend σ τ (leftX σ τ n X i) (leftX σ τ n (λ j. X (suc j)) i)) (λ i h. ap₂ (λ k x. pos ((σ + τ) ^ k) *ℤ (pos σ *ℤ levelAt (blend σ τ) X i 0 +ℤ pos τ *ℤ x)) (omega arith) (sym (level-shift (blend σ τ) X i 0)) ∙ spread (pos ((σ + τ) ^ (n - i))) (pos σ) (pos τ) (levelAt (blend σ τ) X i 0) (levelAt (blend σ τ) (λ j. X (suc j)) i 0))
-        ∙ C-blend s t σ τ n (leftX σ τ n X) (leftX σ τ n (λ j. X (suc j))) ∙ ap₂ (blend σ τ) (C-left n X) (C-left n (λ j. X (suc j))))
+      ∙ C-blend s t σ τ n (leftX σ τ n X) (leftX σ τ n (λ j. X (suc j))) ∙ ap₂ (blend σ τ) (C-left n X) (C-left n (λ j. X (suc j))))
       ∙ join-left (pos (σ + τ)) (pos s) (pos σ) (pos t) (pos τ) (C ((σ + τ) * s + σ * t) (τ * t) n X) (C ((σ + τ) * s + σ * t) (τ * t) n (λ j. X (suc j)))
 
   pub C-right : (n : ℕ) (X : ℕ → ℤ) → C s t n (rightX σ τ n X) ≡ C (σ * s) (τ * s + (σ + τ) * t) n X
@@ -99,13 +99,14 @@ module _ (σ τ s t : ℕ) where
   C-right (suc n) X =
       ap₂ (blend s t)
       (C-cong s t n _ (λ i. blend σ τ (rightX σ τ n X i) (rightX σ τ n (λ j. X (suc j)) i)) (λ i h. up i (n - i) (omega arith))
-        ∙ C-blend s t σ τ n (rightX σ τ n X) (rightX σ τ n (λ j. X (suc j))) ∙ ap₂ (blend σ τ) (C-right n X) (C-right n (λ j. X (suc j))))
+      ∙ C-blend s t σ τ n (rightX σ τ n X) (rightX σ τ n (λ j. X (suc j))) ∙ ap₂ (blend σ τ) (C-right n X) (C-right n (λ j. X (suc j))))
       (C-cong s t n _ (λ i. pos (σ + τ) *ℤ rightX σ τ n (λ j. X (suc j)) i) (λ i h. over i (n - i) (omega arith))
-        ∙ C-scale s t (σ + τ) n (rightX σ τ n (λ j. X (suc j))) ∙ ap (λ x. pos (σ + τ) *ℤ x) (C-right n (λ j. X (suc j))))
+      ∙ C-scale s t (σ + τ) n (rightX σ τ n (λ j. X (suc j))) ∙ ap (λ x. pos (σ + τ) *ℤ x) (C-right n (λ j. X (suc j))))
       ∙ join-right (pos (σ + τ)) (pos s) (pos σ) (pos t) (pos τ) (C (σ * s) (τ * s + (σ + τ) * t) n X) (C (σ * s) (τ * s + (σ + τ) * t) n (λ j. X (suc j)))
     where
       up : (i r : ℕ) → suc n - i ≡ suc r → pos ((σ + τ) ^ i) *ℤ levelAt (blend σ τ) X (suc n - i) i ≡ blend σ τ (pos ((σ + τ) ^ i) *ℤ levelAt (blend σ τ) X r i) (pos ((σ + τ) ^ i) *ℤ levelAt (blend σ τ) (λ j. X (suc j)) r i)
       up i r e = rw (e, level-shift (blend σ τ) X r i) (spread (pos ((σ + τ) ^ i)) (pos σ) (pos τ) (levelAt (blend σ τ) X r i) (levelAt (blend σ τ) X r (suc i)))
+
       over : (i r : ℕ) → suc n - suc i ≡ r → pos ((σ + τ) ^ suc i) *ℤ levelAt (blend σ τ) X (suc n - suc i) (suc i) ≡ pos (σ + τ) *ℤ (pos ((σ + τ) ^ i) *ℤ levelAt (blend σ τ) (λ j. X (suc j)) r i)
       over i r e = rw (e, level-shift (blend σ τ) X r i, pow-succ' (σ + τ) i) (*ℤ-assoc (pos (σ + τ)) (pos ((σ + τ) ^ i)) (levelAt (blend σ τ) X r (suc i)))
 
@@ -132,8 +133,10 @@ module _ (s t : ℕ) where
     where
       close : (s t k U V : ℤ) → s *ℤ (k *ℤ U +ℤ (s *ℤ U +ℤ t *ℤ V)) +ℤ t *ℤ (k *ℤ V +ℤ (s *ℤ U +ℤ t *ℤ V)) ≡ (k +ℤ (s +ℤ t)) *ℤ (s *ℤ U +ℤ t *ℤ V)
       close s t k U V = simp ring
+
       here : (i r : ℕ) → suc (suc n) - i ≡ suc r → blend (suc (suc n) - i) i (X i) (X (pred i)) ≡ blend r i (X i) (X (pred i)) +ℤ X i
       here i r e = rw (e, next-* r (X i)) (swap-last (pos r *ℤ X i) (X i) (pos i *ℤ X (pred i)))
+
       there : (i : ℕ) → i ≤ suc n → blend (suc (suc n) - suc i) (suc i) (X (suc i)) (X i) ≡ blend (suc n - i) i (X (suc i)) (X (suc (pred i))) +ℤ X i
       there zero h = first (suc (suc n) - 1) (suc n - 0) (X 1) (X 0) (omega arith)
         where

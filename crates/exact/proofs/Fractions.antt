@@ -44,6 +44,7 @@ is-product f g x y M N h k = record { same = out (f .num) (pos (f .den)) (g .num
   where
     pull : (a c m n : ℤ) → a *ℤ c *ℤ (m *ℤ n) ≡ a *ℤ m *ℤ (c *ℤ n)
     pull a c m n = simp ring
+
     out : (a b c d m n x y : ℤ) → a *ℤ m ≡ x *ℤ b → c *ℤ n ≡ y *ℤ d → a *ℤ c *ℤ (m *ℤ n) ≡ x *ℤ y *ℤ (b *ℤ d)
     out a b c d m n x y e f = pull a c m n ∙ ap₂ _*ℤ_ e f ∙ sym (pull x y b d)
 
@@ -56,10 +57,13 @@ is-rest f s t h = record { same = rw (one-mul (f .den), mul-one (f .num)) (out (
   where
     one-mul : (d : ℕ) → 1 * d ≡ d
     one-mul d = omega arith
+
     mul-one : (n : ℤ) → n *ℤ pos 1 ≡ n
     mul-one n = omega (arith, ints)
+
     both : (d s t : ℤ) → d *ℤ (s +ℤ t) ≡ s *ℤ d +ℤ t *ℤ d
     both d s t = simp ring
+
     out : (d n s t : ℤ) → n *ℤ (s +ℤ t) ≡ t *ℤ d → (d -ℤ n) *ℤ (s +ℤ t) ≡ s *ℤ d
     out d n s t e =
         *ℤ-distrib-r d (negℤ n) (s +ℤ t)
@@ -76,15 +80,18 @@ exact-is D M X s t u h k = is-as (H-is s t (degree D) X) refl (sums (degree D) (
   where
     term : ℕ → Fraction
     term i = whole (pos (choose (degree D) i)) ⊗ power (whole (pos 1) ⊖ u) (degree D - i) ⊗ power u i ⊗ control D i
+
     powers : (i j : ℕ) → j + i ≡ degree D → 1 * (s + t) ^ j * (s + t) ^ i * M ≡ M * (s + t) ^ degree D
     powers i j e = sym (rw (sym e, pow-add (s + t) j i) (omega arith))
+
     part : (i : ℕ) → i ≤ degree D → Is (term i) (pos (weight s t (degree D) i) *ℤ X i) (M * (s + t) ^ degree D)
     part i l = is-as refl (powers i (degree D - i) (omega arith))
-      (is-product _ (control D i) (pos (weight s t (degree D) i)) (X i) (1 * (s + t) ^ (degree D - i) * (s + t) ^ i) M
+        (is-product _ (control D i) (pos (weight s t (degree D) i)) (X i) (1 * (s + t) ^ (degree D - i) * (s + t) ^ i) M
         (is-product _ (power u i) (pos (choose (degree D) i * s ^ (degree D - i))) (pos (t ^ i)) (1 * (s + t) ^ (degree D - i)) ((s + t) ^ i)
-          (is-product (whole (pos (choose (degree D) i))) (power (whole (pos 1) ⊖ u) (degree D - i)) (pos (choose (degree D) i)) (pos (s ^ (degree D - i))) 1 ((s + t) ^ (degree D - i)) (record { same = refl }) (is-power (whole (pos 1) ⊖ u) s (s + t) (degree D - i) (is-rest u s t k)))
-          (is-power u t (s + t) i k))
+        (is-product (whole (pos (choose (degree D) i))) (power (whole (pos 1) ⊖ u) (degree D - i)) (pos (choose (degree D) i)) (pos (s ^ (degree D - i))) 1 ((s + t) ^ (degree D - i)) (record { same = refl }) (is-power (whole (pos 1) ⊖ u) s (s + t) (degree D - i) (is-rest u s t k)))
+        (is-power u t (s + t) i k))
         (h i l))
+
     sums : (n : ℕ) → ((i : ℕ) → i ≤ n → i ≤ degree D) → Is (sumTo _⊕_ n term) (sumTo _+ℤ_ n (λ i. pos (weight s t (degree D) i) *ℤ X i)) (M * (s + t) ^ degree D)
     sums zero l = part 0 (omega arith)
     sums (suc n) l = is-sum _ _ _ _ _ (sums n (λ i q. l i (omega arith))) (part (suc n) (l (suc n) (omega arith)))
@@ -95,6 +102,7 @@ close-move A M d p x n z e c = le-of-mul-le-mul-left {k = M} (bound (gap (pos d 
   where
     both : M * gap (pos d *ℤ p) n ≡ d * gap (pos M *ℤ p) x
     both = sym (gap-* M (pos d *ℤ p) n) ∙ ap₂ gap (*ℤ-left-comm (pos M) (pos d) p) (*ℤ-comm (pos M) n ∙ e ∙ *ℤ-comm x (pos d)) ∙ gap-* d (pos M *ℤ p) x
+
     bound : (g h : ℕ) → M * g ≡ d * h → 2 * h ≤ A * M → M * (2 * g) ≤ M * (A * d)
     bound g h q l = omega (arith, mul-le-mul-left d l)
 
@@ -123,7 +131,7 @@ common (f ∷ D) =
       over = f .den * c .over;
       positive = mul-pos (f .positive) (c .positive);
       tops = before (pos (c .over) *ℤ f .num) (λ i. pos (f .den) *ℤ c .tops i);
-      each = cases f D c
+      each = cases f D c;
     }
   where
     cases : (f : Fraction) (D : List Fraction) (c : Common D) (i : ℕ) → i < length (f ∷ D) → Is (control (f ∷ D) i) (before (pos (c .over) *ℤ f .num) (λ j. pos (f .den) *ℤ c .tops j) i) (f .den * c .over)

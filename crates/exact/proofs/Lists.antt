@@ -67,14 +67,15 @@ module _ {A : Type 0} (m : A → A → A) where
       let e : degree P ≡ k = ap pred h in
       let g : length (level m P) ≡ k = length-level P ∙ e in
       elim (decLt i k) [
-        yes q ↦ (getD-append-left (lasts m k (level m P)) (drop (degree P) P) d i (omega (arith, length-lasts k (level m P) g))
-          ∙ getD-lasts k (level m P) i d g q
-          ∙ above P (pred k - i) i d (omega arith)
-          ∙ ap (λ r. levelAt m (λ j. getD P j d) r i) (let z : suc (pred k - i) ≡ k - i = omega arith in z))
-      | no q ↦ (getD-append-right (lasts m k (level m P)) (drop (degree P) P) k i d (length-lasts k (level m P) g) (omega arith)
-          ∙ getD-drop (degree P) P (i - k) d
-          ∙ ap (λ (j : ℕ). getD P j d) (omega arith)
-          ∙ sym (ap (λ r. levelAt m (λ j. getD P j d) r i) (let z : k - i ≡ 0 = omega arith in z))) ]
+        | yes q ↦ (getD-append-left (lasts m k (level m P)) (drop (degree P) P) d i (omega (arith, length-lasts k (level m P) g))
+            ∙ getD-lasts k (level m P) i d g q
+            ∙ above P (pred k - i) i d (omega arith)
+            ∙ ap (λ r. levelAt m (λ j. getD P j d) r i) (let z : suc (pred k - i) ≡ k - i = omega arith in z))
+        | no q ↦ (getD-append-right (lasts m k (level m P)) (drop (degree P) P) k i d (length-lasts k (level m P) g) (omega arith)
+            ∙ getD-drop (degree P) P (i - k) d
+            ∙ ap (λ (j : ℕ). getD P j d) (omega arith)
+            ∙ sym (ap (λ r. levelAt m (λ j. getD P j d) r i) (let z : k - i ≡ 0 = omega arith in z)))
+      ]
 
 module _ {A : Type 0} (m : ℕ → A → A → A) where
   length-raiseFrom : (i : ℕ) (x : A) (P : List A) → length (raiseFrom m i x P) ≡ suc (length P)

@@ -32,8 +32,10 @@ module _ {A : Type 0} (m k : A → A → A) (mirrors : (x y : A) → k y x ≡ m
     where
       long : length (right k (reverse P)) ≡ length P
       long = length-lasts k (length (reverse P)) (reverse P) refl ∙ length-reverse P
+
       longs : length (reverse (right k (reverse P))) ≡ length P
       longs = length-reverse (right k (reverse P)) ∙ long
+
       at : (i : ℕ) (d : A) → i < length P → getD (reverse (right k (reverse P))) i d ≡ getD (left m P) i d
       at i d l =
           let n = length P - 1 in

@@ -39,10 +39,13 @@ close-mix A M e s t p q x y m c h k =
   where
     first : gap (pos (M * (s + t)) *ℤ m) (pos M *ℤ blend s t p q) ≡ M * gap (pos (s + t) *ℤ m) (blend s t p q)
     first = ap (λ z. gap z (pos M *ℤ blend s t p q)) (*ℤ-assoc (pos M) (pos (s + t)) m) ∙ gap-* M (pos (s + t) *ℤ m) (blend s t p q)
+
     through : (M s t p q : ℤ) → M *ℤ (s *ℤ p +ℤ t *ℤ q) ≡ s *ℤ (M *ℤ p) +ℤ t *ℤ (M *ℤ q)
     through M s t p q = simp ring
+
     second : gap (pos M *ℤ blend s t p q) (blend s t x y) ≤ s * gap (pos M *ℤ p) x + t * gap (pos M *ℤ q) y
     second = rw through (omega (arith, gap-sum (pos s *ℤ (pos M *ℤ p)) (pos t *ℤ (pos M *ℤ q)) (pos s *ℤ x) (pos t *ℤ y), gap-* s (pos M *ℤ p) x, gap-* t (pos M *ℤ q) y))
+
     bound : (g g0 g1 g2 : ℕ) → 2 * g0 ≤ e * (s + t) → 2 * g1 ≤ A * M → 2 * g2 ≤ A * M → g ≤ M * g0 + (s * g1 + t * g2) → 2 * g ≤ (A + e) * (M * (s + t))
     bound g g0 g1 g2 c h k l = omega (arith, mul-le-mul-left M c, mul-le-mul-left s h, mul-le-mul-left t k)
 
@@ -73,7 +76,7 @@ module _ (m : ℤ → ℤ → ℤ) (s t n A M : ℕ) (e : ℕ → ℕ) (P X : �
   near-level (suc r) i h =
       close-as (levelAt m P (suc r) i) (levelAt (blend s t) X (suc r) i) (omega arith) (rw pow-suc (omega arith))
       (close-mix (A + total e r) (M * (s + t) ^ r) (e r) s t (levelAt m P r i) (levelAt m P r (suc i)) (levelAt (blend s t) X r i) (levelAt (blend s t) X r (suc i)) (levelAt m P (suc r) i)
-        (fair r i (omega arith)) (near-level r i (omega arith)) (near-level r (suc i) (omega arith)))
+      (fair r i (omega arith)) (near-level r i (omega arith)) (near-level r (suc i) (omega arith)))
 
   powers : (i j : ℕ) → i + j ≡ n → (s + t) ^ j * (M * (s + t) ^ i) ≡ M * (s + t) ^ n
   powers i j q = sym (rw (sym q, pow-add) (omega arith))
@@ -82,13 +85,13 @@ module _ (m : ℤ → ℤ → ℤ) (s t n A M : ℕ) (e : ℕ → ℕ) (P X : �
   near-left i h =
       close-more (A + total e i) (A + total e n) (M * (s + t) ^ n) (levelAt m P i 0) (leftX s t n X i) (omega (arith, total-mono e i n h))
       (close-as (levelAt m P i 0) (leftX s t n X i) refl (powers i (n - i) (omega arith))
-        (close-scale ((s + t) ^ (n - i)) (A + total e i) (M * (s + t) ^ i) (levelAt m P i 0) (levelAt (blend s t) X i 0) (near-level i 0 (omega arith))))
+      (close-scale ((s + t) ^ (n - i)) (A + total e i) (M * (s + t) ^ i) (levelAt m P i 0) (levelAt (blend s t) X i 0) (near-level i 0 (omega arith))))
 
   pub near-right : Near n (A + total e n) (M * (s + t) ^ n) (λ i. levelAt m P (n - i) i) (rightX s t n X)
   near-right i h =
       close-more (A + total e (n - i)) (A + total e n) (M * (s + t) ^ n) (levelAt m P (n - i) i) (rightX s t n X i) (omega (arith, total-mono e (n - i) n (omega arith)))
       (close-as (levelAt m P (n - i) i) (rightX s t n X i) refl (powers (n - i) i (omega arith))
-        (close-scale ((s + t) ^ i) (A + total e (n - i)) (M * (s + t) ^ (n - i)) (levelAt m P (n - i) i) (levelAt (blend s t) X (n - i) i) (near-level (n - i) i (omega arith))))
+      (close-scale ((s + t) ^ i) (A + total e (n - i)) (M * (s + t) ^ (n - i)) (levelAt m P (n - i) i) (levelAt (blend s t) X (n - i) i) (near-level (n - i) i (omega arith))))
 
 -- the raised points, over M·(n+1)
 module _ (n A M e : ℕ) (P P′ X : ℕ → ℤ) (near : Near n A M P X) (first : P′ 0 ≡ P 0) (last : P′ (suc n) ≡ P n)
@@ -102,10 +105,11 @@ module _ (n A M e : ℕ) (P P′ X : ℕ → ℤ) (near : Near n A M P X) (first
       ends : (a b : ℕ) (x : ℤ) → a ≡ b → pos a *ℤ x +ℤ pos 0 *ℤ x ≡ pos b *ℤ x
       ends a b x q = rw q (omega (arith, ints))
   near-raise (suc i) h = elim (decLt i n) [
-      yes l ↦ (let q : n - i + suc i ≡ suc n = omega arith in
+    | yes l ↦ (let q : n - i + suc i ≡ suc n = omega arith in
         let c : Close (A + e) (M * (n - i + suc i)) (P′ (suc i)) (blend (n - i) (suc i) (X (suc i)) (X i)) = close-mix A M e (n - i) (suc i) (P (suc i)) (P i) (X (suc i)) (X i) (P′ (suc i)) (rw q (fair i l)) (near (suc i) (omega arith)) (near i (omega arith)) in
         subst₂ (λ j k. Close (A + e) (M * j) (P′ (suc i)) (blend k (suc i) (X (suc i)) (X i))) q (omega arith) c)
-    | no l ↦ (let q : i ≡ n = omega arith in rw q (kept (P n) (P′ (suc n)) (X n) _ last (ends (suc n - suc n) (X (suc n)) (X n) (omega arith)) (near n (omega arith)))) ]
+    | no l ↦ (let q : i ≡ n = omega arith in rw q (kept (P n) (P′ (suc n)) (X n) _ last (ends (suc n - suc n) (X (suc n)) (X n) (omega arith)) (near n (omega arith))))
+  ]
     where
       ends : (a : ℕ) (x y : ℤ) → a ≡ 0 → pos a *ℤ x +ℤ pos (suc n) *ℤ y ≡ pos (suc n) *ℤ y
       ends a x y q = rw q (omega (arith, ints))

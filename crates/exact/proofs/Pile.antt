@@ -50,7 +50,7 @@ begin P a D n e h =
       positive = c .positive;
       tops = c .tops;
       near = λ i l. close-in a (c .over) (at P i) (c .tops i) (control D i) (c .each i (omega (arith, h .equally-many))) (h .each-near i (omega arith));
-      curve = λ u f k. subst (λ m. Is (exact D f) (C (u .rest) (u .part) m (c .tops)) (c .over * both u ^ m)) q (exact-is D (c .over) (c .tops) (u .rest) (u .part) f (λ i l. c .each i (omega (arith, h .equally-many))) k)
+      curve = λ u f k. subst (λ m. Is (exact D f) (C (u .rest) (u .part) m (c .tops)) (c .over * both u ^ m)) q (exact-is D (c .over) (c .tops) (u .rest) (u .part) f (λ i l. c .each i (omega (arith, h .equally-many))) k);
     }
 
 pub mul-pow : (a b n : ℕ) → (a * b) ^ n ≡ a ^ n * b ^ n
@@ -85,9 +85,10 @@ module _ (n a M : ℕ) (P : List ℤ) (X : ℕ → ℤ) (count : length P ≡ su
     where
       last : at (raise (λ i. mix i (length P)) P) (suc n) ≡ at P n
       last = ap (at (raise (λ i. mix i (length P)) P)) (sym count) ∙ raise-last (λ i. mix i (length P)) P (pos 0) (omega arith) ∙ ap (at P) (ap pred count)
+
       fair : (i : ℕ) → i < n → Close 1 (suc n) (at (raise (λ i. mix i (length P)) P) (suc i)) (blend (n - i) (suc i) (at P (suc i)) (at P i))
       fair i l = rw (raise-inner (λ i. mix i (length P)) P i (pos 0) (omega arith), count)
-        (subst₂ (λ j k. 2 * gap (pos j *ℤ mix (suc i) (suc n) (at P (suc i)) (at P i)) (blend k (suc i) (at P (suc i)) (at P i)) ≤ 1 * j) (let q : suc n - suc i + suc i ≡ suc n = omega arith in q) (let q : suc n - suc i ≡ n - i = omega arith in q)
+          (subst₂ (λ j k. 2 * gap (pos j *ℤ mix (suc i) (suc n) (at P (suc i)) (at P i)) (blend k (suc i) (at P (suc i)) (at P i)) ≤ 1 * j) (let q : suc n - suc i + suc i ≡ suc n = omega arith in q) (let q : suc n - suc i ≡ n - i = omega arith in q)
           (mix-fair (suc i) (suc n) (omega arith) (omega arith) (at P (suc i)) (at P i)))
 
   pub turn-near : Near n (a + 0) M (at (turn P)) (turnX n X)
@@ -104,44 +105,44 @@ module _ (v : Param) (ok : InRange v) (D : List Fraction) (n a : ℕ) (P : List 
   module _ (e : ℕ → ℕ) (fair : Fair v n e (at P)) where
     step-left : Holds D n (a + total e n) (left (mixBy mix v) P) (λ u. g (back (leftAt v) u))
     step-left = record {
-        count = length-firsts (mixBy mix v) (length P) P refl ∙ h .count;
-        over = h .over * both (ofParam v) ^ n;
-        positive = some;
-        tops = leftX (ofParam v .rest) (v .part) n (h .tops);
-        near = left-near n a (h .over) P (h .tops) (h .count) (h .near) v e fair;
-        curve = λ u f k. is-as (sym (C-left (ofParam v .rest) (v .part) (u .rest) (u .part) n (h .tops))) (powers u (both (back (leftAt v) u)) (omega arith)) (h .curve (back (leftAt v) u) f k)
-      }
+      count = length-firsts (mixBy mix v) (length P) P refl ∙ h .count;
+      over = h .over * both (ofParam v) ^ n;
+      positive = some;
+      tops = leftX (ofParam v .rest) (v .part) n (h .tops);
+      near = left-near n a (h .over) P (h .tops) (h .count) (h .near) v e fair;
+      curve = λ u f k. is-as (sym (C-left (ofParam v .rest) (v .part) (u .rest) (u .part) n (h .tops))) (powers u (both (back (leftAt v) u)) (omega arith)) (h .curve (back (leftAt v) u) f k);
+    }
 
     step-right : Holds D n (a + total e n) (right (mixBy mix v) P) (λ u. g (back (rightAt v) u))
     step-right = record {
-        count = length-lasts (mixBy mix v) (length P) P refl ∙ h .count;
-        over = h .over * both (ofParam v) ^ n;
-        positive = some;
-        tops = rightX (ofParam v .rest) (v .part) n (h .tops);
-        near = right-near n a (h .over) P (h .tops) (h .count) (h .near) v e fair;
-        curve = λ u f k. is-as (sym (C-right (ofParam v .rest) (v .part) (u .rest) (u .part) n (h .tops))) (powers u (both (back (rightAt v) u)) (omega arith)) (h .curve (back (rightAt v) u) f k)
-      }
+      count = length-lasts (mixBy mix v) (length P) P refl ∙ h .count;
+      over = h .over * both (ofParam v) ^ n;
+      positive = some;
+      tops = rightX (ofParam v .rest) (v .part) n (h .tops);
+      near = right-near n a (h .over) P (h .tops) (h .count) (h .near) v e fair;
+      curve = λ u f k. is-as (sym (C-right (ofParam v .rest) (v .part) (u .rest) (u .part) n (h .tops))) (powers u (both (back (rightAt v) u)) (omega arith)) (h .curve (back (rightAt v) u) f k);
+    }
 
 module _ (D : List Fraction) (n a : ℕ) (P : List ℤ) (g : Share → Share) (h : Holds D n a P g) where
   step-raise : Holds D (suc n) (a + 1) (raise (λ i. mix i (length P)) P) g
   step-raise = record {
-      count = length-raise _ P (omega (arith, h .count)) ∙ ap suc (h .count);
-      over = h .over * suc n;
-      positive = mul-pos (h .positive) (omega arith);
-      tops = raiseX n (h .tops);
-      near = raise-near n a (h .over) P (h .tops) (h .count) (h .near);
-      curve = λ u f k. is-as (sym (C-raise (u .rest) (u .part) n (h .tops))) (rw pow-suc (omega arith)) (is-scale (suc n * both u) (exact D f) (C (u .rest) (u .part) n (h .tops)) (h .over * both u ^ n) (h .curve u f k))
-    }
+    count = length-raise _ P (omega (arith, h .count)) ∙ ap suc (h .count);
+    over = h .over * suc n;
+    positive = mul-pos (h .positive) (omega arith);
+    tops = raiseX n (h .tops);
+    near = raise-near n a (h .over) P (h .tops) (h .count) (h .near);
+    curve = λ u f k. is-as (sym (C-raise (u .rest) (u .part) n (h .tops))) (rw pow-suc (omega arith)) (is-scale (suc n * both u) (exact D f) (C (u .rest) (u .part) n (h .tops)) (h .over * both u ^ n) (h .curve u f k));
+  }
 
   step-turn : Holds D n (a + 0) (turn P) (λ u. g (back turned u))
   step-turn = record {
-      count = length-reverse P ∙ h .count;
-      over = h .over;
-      positive = h .positive;
-      tops = turnX n (h .tops);
-      near = turn-near n a (h .over) P (h .tops) (h .count) (h .near);
-      curve = λ u f k. is-as (sym (C-turn (u .rest) (u .part) n (h .tops))) (ap (λ (x : ℕ). h .over * x ^ n) (omega arith)) (h .curve (back turned u) f k)
-    }
+    count = length-reverse P ∙ h .count;
+    over = h .over;
+    positive = h .positive;
+    tops = turnX n (h .tops);
+    near = turn-near n a (h .over) P (h .tops) (h .count) (h .near);
+    curve = λ u f k. is-as (sym (C-turn (u .rest) (u .part) n (h .tops))) (ap (λ (x : ℕ). h .over * x ^ n) (omega arith)) (h .curve (back turned u) f k);
+  }
 
 pub step : (w : Working) → Valid w → (D : List Fraction) (n a : ℕ) (P : List ℤ) (g : Share → Share) → Holds D n a P g → Holds D (degreeAfter w n) (a + charge w n) (worked mix w P) (λ u. g (back w u))
 step (leftAt v) ok D n a P g h = subst (λ c. Holds D n (a + c) (left (mixBy mix v) P) (λ u. g (back (leftAt v) u))) (total-ones n) (step-left v ok D n a P g h (λ _. 1) (fair-by v ok (at P) n))
@@ -168,7 +169,7 @@ pub point-near : (v : Param) → InRange v → (D : List Fraction) (n a : ℕ) (
 point-near v ok D n a Q g h e fair r f p k =
     close-out (a + total e n) (h .over * both (ofParam v) ^ n) r (C (ofParam v .rest) (v .part) n (h .tops)) (exact D f) (some v ok D n a Q g h) (h .curve (ofParam v) f k)
     (subst₂ (λ (x y : ℤ). Close (a + total e n) (h .over * both (ofParam v) ^ n) x y) (point-is (mixBy mix v) Q n r (h .count) p) (C-is (ofParam v .rest) (v .part) n (h .tops))
-      (near-level (mixBy mix v) (ofParam v .rest) (v .part) n a (h .over) e (at Q) (h .tops) (h .near) fair n 0 (omega arith)))
+    (near-level (mixBy mix v) (ofParam v .rest) (v .part) n a (h .over) e (at Q) (h .tops) (h .near) fair n 0 (omega arith)))
 
 pub point-full : (v : Param) → InRange v → (D : List Fraction) (n a : ℕ) (Q : List ℤ) (g : Share → Share) (h : Holds D n a Q g) (r : ℤ) (f : Fraction) → IsPoint (mixBy mix v) Q r → Is f (pos (g (ofParam v) .part)) (both (g (ofParam v))) → WithinHalf (a + n) r (exact D f)
 point-full v ok D n a Q g h r f p k = subst (λ c. WithinHalf (a + c) r (exact D f)) (total-ones n) (point-near v ok D n a Q g h (λ _. 1) (fair-by v ok (at Q) n) r f p k)
@@ -201,9 +202,10 @@ module _ (S : ℤ → Type 0) (keeps : (w d : ℕ) → 0 < d → w ≤ d → (p 
   all-worked raised ok P z s (suc j) l =
       let c : length (raise (λ i. mix i (length P)) P) ≡ suc (length P) = length-raise (λ i. mix i (length P)) P z in
       elim (decLt (suc j) (length P)) [
-        yes q ↦ rw (raise-inner (λ i. mix i (length P)) P j (pos 0) q) (keeps (suc j) (length P) z (omega arith) (at P (suc j)) (at P j) (s (suc j) q) (s j (omega arith)))
-      | no q ↦ (let e : suc j ≡ length P = omega arith in
-          rw (e, raise-last (λ i. mix i (length P)) P (pos 0) z) (s (degree P) (let q : length P ≡ suc (pred (length P)) = suc-pred (length P) z in omega arith))) ]
+        | yes q ↦ rw (raise-inner (λ i. mix i (length P)) P j (pos 0) q) (keeps (suc j) (length P) z (omega arith) (at P (suc j)) (at P j) (s (suc j) q) (s j (omega arith)))
+        | no q ↦ (let e : suc j ≡ length P = omega arith in
+            rw (e, raise-last (λ i. mix i (length P)) P (pos 0) z) (s (degree P) (let q : length P ≡ suc (pred (length P)) = suc-pred (length P) z in omega arith)))
+      ]
   all-worked turned ok P z s i l =
       let c : length (turn P) ≡ length P = length-reverse P in
       rw (getD-reverse P i (pos 0) (omega arith)) (s _ (omega arith))

@@ -37,5 +37,5 @@ module _ {X : Type 0} (c : X → Point) (m : Meaning) (ws : List Working) (n : �
       let k = step-err (reworkOf w s) f h in
       record {
         done = subst (Reaches c m (map works (take n ws)) (take n ws)) (sym (k .1)) r;
-        stopped = (l, λ x. ap (λ v. reworkOf v s′) (getD-default ws n x d l ∙ sym e) ∙ ap (reworkOf w) (k .1) ∙ k .0)
+        stopped = (l, λ x. ap (λ v. reworkOf v s′) (getD-default ws n x d l ∙ sym e) ∙ ap (reworkOf w) (k .1) ∙ k .0);
       }

@@ -22,9 +22,17 @@ pub fn run<S: Source>(source: &S, workings: &[Working], buffer: &mut [S::K]) -> 
     let mut done = 0;
     for w in workings {
         if let Err(f) = strand.work(*w, buffer) {
-            return Ok(Job { strand, done, fault: Some(f) });
+            return Ok(Job {
+                strand,
+                done,
+                fault: Some(f),
+            });
         }
         done += 1;
     }
-    Ok(Job { strand, done, fault: None })
+    Ok(Job {
+        strand,
+        done,
+        fault: None,
+    })
 }

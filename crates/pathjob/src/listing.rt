@@ -20,7 +20,13 @@ fn list_name(rt: &LibcRuntime, name: &[u8]) -> io::Result<()> {
 }
 
 // A job: the name, the numbers of its strand, each point, and how many of all workings were done.
-pub fn list_job(rt: &LibcRuntime, name: &[u8], job: &Job, buffer: &[Planar], all: usize) -> io::Result<()> {
+pub fn list_job(
+    rt: &LibcRuntime,
+    name: &[u8],
+    job: &Job,
+    buffer: &[Planar],
+    all: usize,
+) -> io::Result<()> {
     list_name(rt, name)?;
     let degree = job.strand.degree();
     let allowance = job.strand.allowance();

@@ -1,9 +1,9 @@
 // Reads a planar path file from standard input, applies its workings, and prints what came of it.
 mod listing;
 
+use jobs::job::run;
 use listing::list_job;
 use listing::list_refusal;
-use jobs::job::run;
 use pathreading::filed::PlanarFiled;
 use pathreading::opened::Opened;
 use pathreading::opening::open;
@@ -36,7 +36,10 @@ fn work(rt: &LibcRuntime, path: &Opened<Planar>) -> Result<Result<bool, Fault>, 
     let (Some(points), Some(workings)) = (filed.get(0..points), list.get(0..all)) else {
         return Err("a count past its buffer".into());
     };
-    let source = InMemory { points, allowance: path.allowance() };
+    let source = InMemory {
+        points,
+        allowance: path.allowance(),
+    };
     let mut buffer = [ORIGIN; 17];
     match run(&source, workings, &mut buffer) {
         Ok(job) => {

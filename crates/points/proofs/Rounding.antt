@@ -30,6 +30,7 @@ floorDiv-shift (negsuc a) k m n h e =
   where
     div-below-k : (a k m : ℕ) → 0 < m → a < k * m → a / m < k
     div-below-k a k m h l = div-below a m k h l
+
     below : (k q m r n : ℕ) → q < k → r < m → n + (q * m + r) + 1 ≡ k * m → (k - q - 1) * m + (m - 1 - r) ≡ n
     below k q m r n ql rl e =
         let j = k - q - 1 in

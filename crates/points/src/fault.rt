@@ -52,6 +52,10 @@ impl Fault {
     pub fn new(refusal: Refusal, place: usize) -> Fault
         ensures { λ r. ⌜ r ≡ refuse refusal place ⌝ }
     {
-        Fault { refusal, storey: 0, place }
+        Fault {
+            refusal,
+            storey: 0,
+            place,
+        }
     }
 }

@@ -14,7 +14,9 @@ pub struct Height {
 fn mix_height(p: Height, q: Height, w: Weight) -> Height
     ensures { λ r. ⌜ r .z ≡ mixed (w .num) (w .den) (p .z) (q .z) ⌝ }
 {
-    Height { z: mix_axis(p.z, q.z, w) }
+    Height {
+        z: mix_axis(p.z, q.z, w),
+    }
 }
 
 pub impl Kind for Height as HeightKind {

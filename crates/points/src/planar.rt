@@ -15,7 +15,10 @@ pub struct Planar {
 fn mix_planar(p: Planar, q: Planar, w: Weight) -> Planar
     ensures { λ r. ⌜ (r .x ≡ mixed (w .num) (w .den) (p .x) (q .x)) × (r .y ≡ mixed (w .num) (w .den) (p .y) (q .y)) ⌝ }
 {
-    Planar { x: mix_axis(p.x, q.x, w), y: mix_axis(p.y, q.y, w) }
+    Planar {
+        x: mix_axis(p.x, q.x, w),
+        y: mix_axis(p.y, q.y, w),
+    }
 }
 
 pub impl Kind for Planar as PlanarKind {

@@ -60,7 +60,11 @@ pub impl Kind for Sample as SampleKind {
 
     fn mix(p: Sample, q: Sample, w: Weight) -> Sample {
         let press = mix_axis(p.pressed() as i32, q.pressed() as i32, w);
-        Sample { x: mix_axis(p.x, q.x, w), y: mix_axis(p.y, q.y, w), press: press as u16 }
+        Sample {
+            x: mix_axis(p.x, q.x, w),
+            y: mix_axis(p.y, q.y, w),
+            press: press as u16,
+        }
     }
 }
 

@@ -30,6 +30,9 @@ impl Weight {
     pub fn complement(self) -> Weight
         ensures { λ r. ⌜ (r .num ≡ self .den - self .num) × (r .den ≡ self .den) ⌝ }
     {
-        Weight { num: self.den - self.num, den: self.den }
+        Weight {
+            num: self.den - self.num,
+            den: self.den,
+        }
     }
 }

@@ -32,7 +32,7 @@ pub record RightDone (f : Point → Point → Point) (ps qs : List Point) (r : �
 pub right-none : (f : Point → Point → Point) (ps : List Point) → RightDone f ps ps 0
 right-none f ps = record {
   low = λ k l. refl;
-  high = λ k s h l. zero-only f ps k s h
+  high = λ k s h l. zero-only f ps k s h;
 }
   where
     zero-only : (f : Point → Point → Point) (ps : List Point) (k s : ℕ) → s ≤ 0 → at ps k ≡ levelAt f (at ps) s k
@@ -43,20 +43,23 @@ pub right-more : (f : Point → Point → Point) (ps qs rs : List Point) (r m : 
 right-more f ps qs rs r m e inv bot = record {
   low = step;
   high = λ k s h l. ⊎-elim
-    (λ (s-is : s ≡ suc r). subst (λ i. at rs k ≡ levelAt f (at ps) i k) (sym s-is) (top k s l s-is))
-    (λ (n : s ≢ suc r). bot .above k (over k s l h n) ∙ inv .high k s (less-eq s r h n) l)
-    (cases-eq s (suc r))
+      (λ (s-is : s ≡ suc r). subst (λ i. at rs k ≡ levelAt f (at ps) i k) (sym s-is) (top k s l s-is))
+      (λ (n : s ≢ suc r). bot .above k (over k s l h n) ∙ inv .high k s (less-eq s r h n) l)
+      (cases-eq s (suc r));
 }
   where
     less-eq : (k r : ℕ) → k ≤ suc r → k ≢ suc r → k ≤ r
     less-eq k r h n = omega arith
+
     step : (k : ℕ) → k + suc r < length ps → at rs k ≡ levelAt f (at ps) (suc r) k
     step k l =
         let a = inv .low k (omega arith) in
         let b : at qs (k + 1) ≡ levelAt f (at ps) r (suc k) = ap (at qs) (add-one k) ∙ inv .low (suc k) (omega arith) in
         bot .mixes k (omega arith) ∙ ap (λ u. f u (at qs (k + 1))) a ∙ ap (f (levelAt f (at ps) r k)) b
+
     top : (k s : ℕ) → k + s + 1 ≡ length ps → s ≡ suc r → at rs k ≡ levelAt f (at ps) (suc r) k
     top k s l q = step k (omega arith)
+
     over : (k s : ℕ) → k + s + 1 ≡ length ps → s ≤ suc r → s ≢ suc r → m ≤ k
     over k s l h n = let b = less-eq s r h n in omega arith
 

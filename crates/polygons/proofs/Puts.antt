@@ -30,20 +30,22 @@ module _ {X : Type 0} (c : X → Point) where
   -- the whole slice is the polygon
   pub puts-all : (qs : List Point) (before after : List X) → length after ≡ length before → map c after ≡ qs → Puts c qs (Ok tt) before after
   puts-all qs before after l e =
-      let n : length qs ≡ length after = sym (ap length e) ∙ length-map after c in
-      (ap (λ k. map c (take k after)) n ∙ ap (map c) (take-all (length after) after (omega arith)) ∙ e,
-       drop-all (length qs) after (omega arith) ∙ sym (drop-all (length qs) before (omega arith)))
+      let n : length qs ≡ length after = sym (ap length e) ∙ length-map after c in (
+        ap (λ k. map c (take k after)) n ∙ ap (map c) (take-all (length after) after (omega arith)) ∙ e,
+        drop-all (length qs) after (omega arith) ∙ sym (drop-all (length qs) before (omega arith)),
+      )
 
   -- one pass over all but the last place
   puts-level-by : (m : Point → Point → Point) (before after : List X) (n : ℕ) → n + 1 ≡ length before → length after ≡ length before → Passed m (map c before) (map c after) n → drop n after ≡ drop n before → Puts c (level m (map c before)) (Ok tt) before after
   puts-level-by m before after n e l p rest =
-      let k : length (level m (map c before)) ≡ n = length-level m (map c before) ∙ omega (arith, length-map before c, sub-one (length (map c before))) in
-      (same-points (map c (take (length (level m (map c before))) after)) (level m (map c before)) (length-map (take (length (level m (map c before))) after) c ∙ length-take-le _ after (omega arith))
-        (λ i h.
-          let i-below : i < n = omega (arith, length-map (take (length (level m (map c before))) after) c, length-take-le (length (level m (map c before))) after (omega arith)) in
-          ap (λ zs. at zs i) (sym (take-map c (length (level m (map c before))) after)) ∙ getD-take (length (level m (map c before))) (map c after) i origin (omega arith)
-          ∙ p .mixes i i-below ∙ ap (λ j. m (at (map c before) i) (at (map c before) j)) (add-one i) ∙ sym (getD-level m (map c before) i origin (omega (arith, length-map before c)))),
-       ap (λ j. drop j after) k ∙ rest ∙ sym (ap (λ j. drop j before) k))
+      let k : length (level m (map c before)) ≡ n = length-level m (map c before) ∙ omega (arith, length-map before c, sub-one (length (map c before))) in (
+        same-points (map c (take (length (level m (map c before))) after)) (level m (map c before)) (length-map (take (length (level m (map c before))) after) c ∙ length-take-le _ after (omega arith))
+            (λ i h.
+            let i-below : i < n = omega (arith, length-map (take (length (level m (map c before))) after) c, length-take-le (length (level m (map c before))) after (omega arith)) in
+            ap (λ zs. at zs i) (sym (take-map c (length (level m (map c before))) after)) ∙ getD-take (length (level m (map c before))) (map c after) i origin (omega arith)
+            ∙ p .mixes i i-below ∙ ap (λ j. m (at (map c before) i) (at (map c before) j)) (add-one i) ∙ sym (getD-level m (map c before) i origin (omega (arith, length-map before c)))),
+        ap (λ j. drop j after) k ∙ rest ∙ sym (ap (λ j. drop j before) k),
+      )
 
   pub puts-level : (t : Parameter) (w d : ℕ) (before after : List X) (n : ℕ) → w ≡ t .a → d ≡ 2 ^ t .k → n + 1 ≡ length before → length after ≡ length before → Passed (mixPoint w d) (map c before) (map c after) n → drop n after ≡ drop n before → Puts c (level (mixAt t) (map c before)) (Ok tt) before after
   puts-level t w d before after n ew ed e l p rest =
@@ -59,8 +61,8 @@ module _ {X : Type 0} (c : X → Point) where
   puts-left t w d u v before mid after h ew ed eu ev l em ea =
       puts-all (left (mixAt t) (map c before)) before after l
       (ap (map c) ea ∙ map-turn c mid ∙ ap reverse (em ∙ ap₂ (λ i j. right (mixPoint i j) (map c (reverse before))) eu ev ∙ ap (right (mixPoint (d - w) d)) (map-turn c before))
-        ∙ left-mirror (mixPoint w d) (mixPoint (d - w) d) (λ x y. fun-ext (λ a. mixed-mirror w d h (x a) (y a))) (map c before)
-        ∙ ap₂ (λ i j. left (mixPoint i j) (map c before)) ew ed)
+      ∙ left-mirror (mixPoint w d) (mixPoint (d - w) d) (λ x y. fun-ext (λ a. mixed-mirror w d h (x a) (y a))) (map c before)
+      ∙ ap₂ (λ i j. left (mixPoint i j) (map c before)) ew ed)
 
   pub puts-turn : (before after : List X) → length after ≡ length before → after ≡ reverse before → Puts c (reverse (map c before)) (Ok tt) before after
   puts-turn before after l e = puts-all (reverse (map c before)) before after l (ap (map c) e ∙ map-turn c before)
@@ -72,6 +74,7 @@ module _ {X : Type 0} (c : X → Point) where
       let front : take (length (take k before) - 1) (take k before) ≡ take n before = ap (λ i. take i (take k before)) (let q : length (take k before) - 1 ≡ n = omega arith in q) ∙ take-take n k before (omega arith) in
       let is : map c ys ≡ raised (map c (take n before)) = e ∙ ap (λ zs. raised (map c zs)) front in
       let many : length (raised (map c (take n before))) ≡ length ys = sym (ap length is) ∙ length-map ys c in
-      let yl : length ys ≡ k = ly ∙ lk ∙ sym ek in
-      (ap (map c) (take-at ys (drop k before) (length (raised (map c (take n before)))) (sym many)) ∙ is,
-       drop-at ys (drop k before) (length (raised (map c (take n before)))) (sym many) ∙ ap (λ i. drop i before) (sym yl ∙ sym many))
+      let yl : length ys ≡ k = ly ∙ lk ∙ sym ek in (
+        ap (map c) (take-at ys (drop k before) (length (raised (map c (take n before)))) (sym many)) ∙ is,
+        drop-at ys (drop k before) (length (raised (map c (take n before)))) (sym many) ∙ ap (λ i. drop i before) (sym yl ∙ sym many),
+      )

@@ -30,10 +30,10 @@ module _ {X : Type 0} (c : X → Point) (g : ℕ → Point → Point → Point) 
   top-more i ei h h1 inv ea eb ex = record {
     below = λ k l. write-other c xs j k x (omega arith) ∙ inv .below k (omega arith);
     mixes = λ k l m′. ⊎-elim
-      (λ (e : k ≡ j). subst (λ i. getD (map c (set xs j x)) i origin ≡ g i (getD ps (i - 1) origin) (getD ps i origin)) (sym e) (write-same c xs j x (omega arith) ∙ ex ∙ ap (λ u. g j u (c b)) (ea ∙ inv .below (j - 1) (omega arith)) ∙ ap (g j (getD ps (j - 1) origin)) (eb ∙ inv .below j (omega arith))))
-      (λ (n : k ≢ j). write-other c xs j k x n ∙ inv .mixes k (apart k j i l n ei) m′)
-      (cases-eq k j);
-    above = λ k l. write-other c xs j k x (omega arith) ∙ inv .above k l
+        (λ (e : k ≡ j). subst (λ i. getD (map c (set xs j x)) i origin ≡ g i (getD ps (i - 1) origin) (getD ps i origin)) (sym e) (write-same c xs j x (omega arith) ∙ ex ∙ ap (λ u. g j u (c b)) (ea ∙ inv .below (j - 1) (omega arith)) ∙ ap (g j (getD ps (j - 1) origin)) (eb ∙ inv .below j (omega arith))))
+        (λ (n : k ≢ j). write-other c xs j k x n ∙ inv .mixes k (apart k j i l n ei) m′)
+        (cases-eq k j);
+    above = λ k l. write-other c xs j k x (omega arith) ∙ inv .above k l;
   }
     where
       apart : (k j i : ℕ) → j ≤ k → k ≢ j → i ≡ j + 1 → i ≤ k
@@ -60,24 +60,30 @@ raised-all c xs y d i qs el h eq ey ei inv = same-points qs (raised (map c (take
   where
     lp : length (map c (take d xs)) ≡ d
     lp = length-map (take d xs) c ∙ length-take-le d xs (omega arith)
+
     was : (k : ℕ) → k < d → at (map c xs) k ≡ at (map c (take d xs)) k
     was k l = sym (ap (λ zs. at zs k) (sym (take-map c d xs)) ∙ getD-take d (map c xs) k origin l)
+
     kept : (k : ℕ) → k < d → at (map c (set xs d y)) k ≡ at (map c (take d xs)) k
     kept k l = write-other c xs d k y (omega arith) ∙ was k l
+
     top : at (map c (set xs d y)) d ≡ at (map c (take d xs)) (d - 1)
     top = write-same c xs d y (omega arith) ∙ read-is c xs (d - 1) y (omega arith) ey ∙ was (d - 1) (omega arith)
+
     middle : (k : ℕ) → 1 ≤ k → k < d → at qs k ≡ at (raised (map c (take d xs))) k
     middle k l m = inv .mixes k (omega arith) m ∙ ap (λ p. mixPoint k d p (at (map c (set xs d y)) (k - 1))) (kept k m) ∙ ap (mixPoint k d (at (map c (take d xs)) k)) (kept (k - 1) (omega arith)) ∙ ap (λ n. mixPoint k n (at (map c (take d xs)) k) (at (map c (take d xs)) (k - 1))) (sym lp) ∙ sym (at-raised (map c (take d xs)) k l (omega (arith, lp)))
+
     point : (k : ℕ) → k < length qs → at qs k ≡ at (raised (map c (take d xs))) k
     point k l = ⊎-elim
-      (λ (e : k ≡ 0). subst (λ n. at qs n ≡ at (raised (map c (take d xs))) n) (sym e) (inv .below 0 (omega arith) ∙ kept 0 (omega arith) ∙ sym (raise-first (λ i. mixPoint i (length (map c (take d xs)))) (map c (take d xs)) origin)))
-      (λ (n : k ≢ 0). ⊎-elim
+        (λ (e : k ≡ 0). subst (λ n. at qs n ≡ at (raised (map c (take d xs))) n) (sym e) (inv .below 0 (omega arith) ∙ kept 0 (omega arith) ∙ sym (raise-first (λ i. mixPoint i (length (map c (take d xs)))) (map c (take d xs)) origin)))
+        (λ (n : k ≢ 0). ⊎-elim
         (λ (e : k ≡ d). subst (λ n. at qs n ≡ at (raised (map c (take d xs))) n) (sym e) (inv .above d (omega arith) ∙ top ∙ sym (subst (λ n. at (raised (map c (take d xs))) n ≡ at (map c (take d xs)) (n - 1)) lp (at-raised-last (map c (take d xs)) (omega (arith, lp))))))
         (λ (o : k ≢ d). middle k (positive k n) (within k l o))
         (cases-eq k d))
-      (cases-eq k 0)
+        (cases-eq k 0)
       where
         positive : (k : ℕ) → k ≢ 0 → 1 ≤ k
         positive k n = omega arith
+
         within : (k : ℕ) → k < length qs → k ≢ d → k < d
         within k l o = omega arith

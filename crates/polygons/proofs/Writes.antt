@@ -26,10 +26,10 @@ module _ {X : Type 0} (c : X → Point) (f : Point → Point → Point) (ps : Li
   pub pass-more : j < length xs → Passed f ps (map c xs) j → c a ≡ getD (map c xs) j origin → c b ≡ getD (map c xs) (j + 1) origin → c x ≡ f (c a) (c b) → Passed f ps (map c (set xs j x)) (j + 1)
   pass-more h inv ea eb ex = record {
     mixes = λ k l. ⊎-elim
-      (λ (e : k ≡ j). subst (λ i. getD (map c (set xs j x)) i origin ≡ f (getD ps i origin) (getD ps (i + 1) origin)) (sym e) (write-same c xs j x h ∙ ex ∙ ap (λ u. f u (c b)) (ea ∙ inv .above j (omega arith)) ∙ ap (f (getD ps j origin)) (eb ∙ inv .above (j + 1) (omega arith))))
-      (λ (n : k ≢ j). write-other c xs j k x n ∙ inv .mixes k (less k j l n))
-      (cases-eq k j);
-    above = λ k l. write-other c xs j k x (omega arith) ∙ inv .above k (omega arith)
+        (λ (e : k ≡ j). subst (λ i. getD (map c (set xs j x)) i origin ≡ f (getD ps i origin) (getD ps (i + 1) origin)) (sym e) (write-same c xs j x h ∙ ex ∙ ap (λ u. f u (c b)) (ea ∙ inv .above j (omega arith)) ∙ ap (f (getD ps j origin)) (eb ∙ inv .above (j + 1) (omega arith))))
+        (λ (n : k ≢ j). write-other c xs j k x n ∙ inv .mixes k (less k j l n))
+        (cases-eq k j);
+    above = λ k l. write-other c xs j k x (omega arith) ∙ inv .above k (omega arith);
   }
     where
       less : (k j : ℕ) → k < j + 1 → k ≢ j → k < j

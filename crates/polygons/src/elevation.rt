@@ -15,7 +15,11 @@ fn raised_point<K: Kind>(here: K, before: K, i: usize, d: usize) -> K
     requires { ⌜ (i ≤ d) × (1 ≤ d) × (d ≤ 17) ⌝ }
     ensures { λ r. ⌜ coord r ≡ mixPoint i d (coord here) (coord before) ⌝ }
 {
-    K::mix(here, before, Weight { num: i as u16, den: d as u16 })
+    let w = Weight {
+        num: i as u16,
+        den: d as u16,
+    };
+    K::mix(here, before, w)
 }
 
 // One degree more, from the top down. The last place is free, the ones before it hold the polygon.

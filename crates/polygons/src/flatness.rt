@@ -5,9 +5,9 @@ ghost use lib.ListN.{length};
 ghost use lib.IntN.{pos, _*ℤ_};
 ghost use borrow.Author.Differences.{up, down};
 ghost use Rattle.polygons.specs.Flatness.{offBy, FirstOff, Tested};
+use crate::size::test_size;
 use points::fault::Fault;
 use points::kind::Kind;
-use crate::size::test_size;
 
 // Whether a polygon is flat; if not, its first point that is off, and the first axis on it.
 #[derive(Clone, Copy, PartialEq, Eq, Debug)]

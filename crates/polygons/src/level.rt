@@ -5,11 +5,11 @@ ghost use lib.ListN.{length, drop};
 ghost use Rattle.points.specs.Points.{mixPoint};
 ghost use Rattle.polygons.specs.Buffers.{sized, scaled, Puts, Weighs};
 ghost use Rattle.polygons.specs.Constructions.{Passed, levelAbove};
+use crate::size::test_size;
 use points::fault::Fault;
 use points::kind::Kind;
 use points::parameter::Parameter;
 use points::weight::Weight;
-use crate::size::test_size;
 
 // The tests of a call on a polygon at a parameter: 1, then 3.
 pub(crate) fn test_call(t: Parameter, points: usize) -> Result<Weight, Fault>

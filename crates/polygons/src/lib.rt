@@ -1,7 +1,7 @@
 // The constructions on control polygons, in place on slices of points of any kind.
-pub mod size;
-pub mod level;
-pub mod subdivision;
 pub mod elevation;
-pub mod reversal;
 pub mod flatness;
+pub mod level;
+pub mod reversal;
+pub mod size;
+pub mod subdivision;

@@ -3,9 +3,9 @@ ghost use mathlib.Core.List.{map};
 ghost use lib.ListN.{length};
 ghost use Rattle.polygons.specs.Buffers.{sized, Puts};
 ghost use Rattle.polygons.specs.Constructions.{turned};
+use crate::size::test_size;
 use points::fault::Fault;
 use points::kind::Kind;
-use crate::size::test_size;
 
 // The points in the other order.
 pub fn turn<K: Kind>(polygon: &mut [K]) -> Result<(), Fault>

@@ -6,12 +6,12 @@ ghost use Rattle.exact.specs.Polygon as exact;
 ghost use Rattle.points.specs.Points.{mixPoint};
 ghost use Rattle.polygons.specs.Buffers.{sized, scaled, Puts};
 ghost use Rattle.polygons.specs.Constructions.{leftPart, rightPart};
+use crate::level::mix_level;
+use crate::level::test_call;
 use points::fault::Fault;
 use points::kind::Kind;
 use points::parameter::Parameter;
 use points::weight::Weight;
-use crate::level::mix_level;
-use crate::level::test_call;
 
 // The last points of all levels, the last level first: each pass leaves one more of them.
 fn right_part<K: Kind>(p: &mut [K], w: Weight)

@@ -13,7 +13,12 @@ use polygons::subdivision::right;
 use std::io;
 
 // What a call left first on a buffer, or its refusal.
-fn list_points<K: Kind>(rt: &LibcRuntime, label: &str, r: Result<(), Fault>, points: &[K]) -> io::Result<()> {
+fn list_points<K: Kind>(
+    rt: &LibcRuntime,
+    label: &str,
+    r: Result<(), Fault>,
+    points: &[K],
+) -> io::Result<()> {
     print!(rt, "{label}")?;
     match r {
         Ok(()) => {
@@ -46,7 +51,13 @@ fn list_flatness(rt: &LibcRuntime, r: Result<Flatness, Fault>) -> io::Result<()>
 }
 
 // Every construction on the polygon that the values are.
-pub fn list_polygon<K: Made>(rt: &LibcRuntime, values: &[i32], t: Parameter, tolerance: u16, buffer: &mut [K]) -> io::Result<()> {
+pub fn list_polygon<K: Made>(
+    rt: &LibcRuntime,
+    values: &[i32],
+    t: Parameter,
+    tolerance: u16,
+    buffer: &mut [K],
+) -> io::Result<()> {
     let n = fill(buffer, values);
     if n > buffer.len() {
         return Ok(());
@@ -65,5 +76,10 @@ pub fn list_polygon<K: Made>(rt: &LibcRuntime, values: &[i32], t: Parameter, tol
     fill(buffer, values);
     list_flatness(rt, flat_test(&buffer[0..n], tolerance))?;
     let r = raise(buffer, n);
-    list_points(rt, "raise", r, buffer.get(0..n.saturating_add(1)).unwrap_or(&[]))
+    list_points(
+        rt,
+        "raise",
+        r,
+        buffer.get(0..n.saturating_add(1)).unwrap_or(&[]),
+    )
 }

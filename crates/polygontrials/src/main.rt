@@ -1,9 +1,12 @@
 // Works each polygon of a table on standard input by every construction in place, and prints what they give.
 // A line is a kind, k and a of a parameter, a tolerance, and the axis values of the points, point after point.
-mod made;
 mod listing;
+mod made;
 
 use listing::list_polygon;
+use made::HeightMade;
+use made::PlanarMade;
+use made::SampleMade;
 use points::height::Height;
 use points::height::HeightKind;
 use points::parameter::Parameter;
@@ -11,9 +14,6 @@ use points::planar::Planar;
 use points::planar::PlanarKind;
 use points::sample::Sample;
 use points::sample::SampleKind;
-use made::HeightMade;
-use made::PlanarMade;
-use made::SampleMade;
 use std::error::AnyError;
 use std::io::Read;
 
@@ -29,13 +29,26 @@ fn list_line(rt: &LibcRuntime, line: &str) -> Result<(), AnyError> {
     let [k, a, tolerance, values @ ..] = numbers.as_slice() else {
         return Err("a line of too few words".into());
     };
-    let t = Parameter { a: u16::try_from(*a)?, k: u8::try_from(*k)? };
+    let t = Parameter {
+        a: u16::try_from(*a)?,
+        k: u8::try_from(*k)?,
+    };
     let q = u16::try_from(*tolerance)?;
     println!(rt, "{line}")?;
     match kind {
         "height" => list_polygon(rt, values, t, q, &mut [Height { z: 0 }; 18])?,
         "planar" => list_polygon(rt, values, t, q, &mut [Planar { x: 0, y: 0 }; 18])?,
-        _ => list_polygon(rt, values, t, q, &mut [Sample { x: 0, y: 0, press: 0 }; 18])?,
+        _ => list_polygon(
+            rt,
+            values,
+            t,
+            q,
+            &mut [Sample {
+                x: 0,
+                y: 0,
+                press: 0,
+            }; 18],
+        )?,
     }
     Ok(())
 }

@@ -29,9 +29,9 @@ itself-at a (p ∷ ps) (suc i) = itself-at a ps i
 
 stands : (width : ℕ) (h : Held) → Stands width (holds h) (itself (h .points))
 stands width h a _ = record {
-    equally-many = length-map (itself (h .points)) (λ x. x a) ∙ length-map (h .points) (λ p b. whole (p b)) ∙ sym (length-map (h .points) (λ x. x a));
-    each-near = λ i l. subst (WithinHalf (h .allowance) (getD (along a (h .points)) i (pos 0))) (sym (itself-at a (h .points) i)) (close (h .allowance) (getD (along a (h .points)) i (pos 0)))
-  }
+  equally-many = length-map (itself (h .points)) (λ x. x a) ∙ length-map (h .points) (λ p b. whole (p b)) ∙ sym (length-map (h .points) (λ x. x a));
+  each-near = λ i l. subst (WithinHalf (h .allowance) (getD (along a (h .points)) i (pos 0))) (sym (itself-at a (h .points) i)) (close (h .allowance) (getD (along a (h .points)) i (pos 0)));
+}
 
 not-the-first : AccurateOver 1 rise half (Ok (height 0, 1)) → ⊥
 unfolding exact carried
@@ -64,10 +64,10 @@ not-from-elsewhere h =
 
 pub bites : Bites
 bites = record {
-    stands = stands;
-    not-the-first = not-the-first;
-    not-without-degree = not-without-degree;
-    not-untrimmed = not-untrimmed;
-    not-pretended = not-pretended;
-    not-from-elsewhere = not-from-elsewhere
-  }
+  stands = stands;
+  not-the-first = not-the-first;
+  not-without-degree = not-without-degree;
+  not-untrimmed = not-untrimmed;
+  not-pretended = not-pretended;
+  not-from-elsewhere = not-from-elsewhere;
+}

@@ -14,7 +14,16 @@ use sources::memory::InMemorySource;
 pub fn cubic_at_half(a: i32, b: i32, c: i32, d: i32) -> Result<(i32, u32), Fault>
     ensures { λ r. ⌜ r ≡ onAxis 0 (pointOf half (cubic a b c d) 4) ⌝ }
 {
-    let points = [Height { z: a }, Height { z: b }, Height { z: c }, Height { z: d }];
+    let points = [
+        Height { z: a },
+        Height { z: b },
+        Height { z: c },
+        Height { z: d },
+    ];
     let mut buffer = [Height { z: 0 }; 4];
-    coordinate(&InMemory { points: &points, allowance: 0 }, Parameter { a: 1, k: 1 }, 0, &mut buffer)
+    let source = InMemory {
+        points: &points,
+        allowance: 0,
+    };
+    coordinate(&source, Parameter { a: 1, k: 1 }, 0, &mut buffer)
 }

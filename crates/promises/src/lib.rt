@@ -1,5 +1,6 @@
 // Theorems about the promises themselves: that they are not empty, what they refuse, and worked values of the definitions that the contracts use.
 pub mod example;
+
 ghost use Rattle.promises.specs.Bites.{Bites};
 ghost use Rattle.promises.specs.Values.{Values};
 

@@ -65,15 +65,15 @@ module _ (width : ℕ) (h q : Held) (ws : List Working) (t : Parameter) (some : 
       let n : degree (along a (h .points)) ≡ degree (h .points) = ap pred (length-map (h .points) (λ x. x a)) in
       let w = accurate-on (λ (x : Point). x a) mixPoint (λ w d _ _ x y. mixed-is w d (x a) (y a)) (h .points) (steps ws) (place t) given z (o .valid) (in-range t ok) point (h .allowance) D s in
       subst₂ (λ (x y : ℕ). WithinHalf (x + y) (given a) (exact D (carriedBack ws t)))
-        (ap (λ k. exact.allowanceOver (steps ws) k (h .allowance)) n ∙ sym (o .allowance))
-        (ap (exact.degreeOver (steps ws)) n ∙ sym (o .numbers) ∙ sym (sub-one (length (q .points))))
-        w
+      (ap (λ k. exact.allowanceOver (steps ws) k (h .allowance)) n ∙ sym (o .allowance))
+      (ap (exact.degreeOver (steps ws)) n ∙ sym (o .numbers) ∙ sym (sub-one (length (q .points))))
+      w
 
   accurate-held : Accurate width (holds h) ws t given (q .allowance + (length (q .points) - 1))
   accurate-held = record {
-      near = λ D s a l. near a (along a D) (s a l);
-      boxed = λ a _. enclosed-on (λ (x : Point). x a) mixPoint (λ w d _ _ x y. mixed-is w d (x a) (y a)) (h .points) (steps ws) (place t) given z (o .valid) (in-range t ok) point
-    }
+    near = λ D s a l. near a (along a D) (s a l);
+    boxed = λ a _. enclosed-on (λ (x : Point). x a) mixPoint (λ w d _ _ x y. mixed-is w d (x a) (y a)) (h .points) (steps ws) (place t) given z (o .valid) (in-range t ok) point;
+  }
 
 -- the point of whatever a pile holds, for whatever stands at its bottom
 pub accurate-bottom : (width : ℕ) (bottom : Meaning) (q : Held) (ws : List Working) (t : Parameter) → 0 < length (q .points) → offScale t ≡ false → piled ws bottom ≡ holds q → Accurate width bottom ws t (pointAt t (q .points)) (q .allowance + (length (q .points) - 1))
@@ -84,10 +84,10 @@ accurate-answer : (width : ℕ) (m : Meaning) (t : Parameter) (n : ℕ) → Soun
 accurate-answer width (fails f) t n s bottom ws e = tt
 accurate-answer width (holds q) t n s bottom ws e =
     cond-both (offScale t) (Err (refuse OffScale 0)) (cond (ltb n (q .reach)) (Err (refuse Short (q .reach))) (Ok (pointAt t (q .points), q .allowance + (length (q .points) - 1)))) (λ v. AccurateFor width bottom ws t v)
-      (λ _. tt)
-      (λ ok. cond-both (ltb n (q .reach)) (Err (refuse Short (q .reach))) (Ok (pointAt t (q .points), q .allowance + (length (q .points) - 1))) (λ v. AccurateFor width bottom ws t v)
-        (λ _. tt)
-        (λ _. accurate-bottom width bottom q ws t (omega arith) ok (sym e)))
+    (λ _. tt)
+    (λ ok. cond-both (ltb n (q .reach)) (Err (refuse Short (q .reach))) (Ok (pointAt t (q .points), q .allowance + (length (q .points) - 1))) (λ v. AccurateFor width bottom ws t v)
+    (λ _. tt)
+    (λ _. accurate-bottom width bottom q ws t (omega arith) ok (sym e)))
 
 pub accurate-by : (width : ℕ) (m : Meaning) (t : Parameter) (n : ℕ) (v : Result (Point × ℕ) Fault) → Sound m → v ≡ pointOf t m n → AccurateOver width m t v
 accurate-by width m t n v s q = subst (AccurateOver width m t) (sym q) (accurate-answer width m t n s)

@@ -55,6 +55,7 @@ draw-work c w (holds p) s t before mid fin h e q l laid put =
     let same : shape w (map c (take (s .degree + 1) mid)) ≡ shape w (p .points) = ap (shape w) was in
     let first : map c (take (length (shape w (p .points))) fin) ≡ shape w (p .points) = ap (λ qs. map c (take (length qs) fin)) (sym same) ∙ put .0 ∙ same in
     let rest : drop (length (shape w (p .points))) fin ≡ drop (length (shape w (p .points))) mid = ap (λ qs. drop (length qs) fin) (sym same) ∙ put .1 ∙ ap (λ qs. drop (length qs) mid) same in
-    let past : drop (t .reach) fin ≡ drop (t .reach) before = drop-further fin mid (length (shape w (p .points))) (t .reach) (omega arith) rest ∙ drop-further mid before (p .reach) (t .reach) (omega arith) (low .1) in
-    (drawn-ok above (length before) t (work w (holds p)) means (ap (λ v. record { degree = v; allowance = t .allowance; reach = t .reach }) dg) l,
-     laid-by c (work w (holds p)) (holds above) before fin means ((λ (v : length before < t .reach). absurd (omega arith)), (λ _. (first, past))))
+    let past : drop (t .reach) fin ≡ drop (t .reach) before = drop-further fin mid (length (shape w (p .points))) (t .reach) (omega arith) rest ∙ drop-further mid before (p .reach) (t .reach) (omega arith) (low .1) in (
+      drawn-ok above (length before) t (work w (holds p)) means (ap (λ v. record { degree = v; allowance = t .allowance; reach = t .reach }) dg) l,
+      laid-by c (work w (holds p)) (holds above) before fin means ((λ (v : length before < t .reach). absurd (omega arith)), (λ _. (first, past))),
+    )

@@ -70,6 +70,7 @@ memory-surveyed ps e n s l q = by (sized n) refl
 pub laid-front : {X : Type 0} (c : X → Point) (xs ys before : List X) (e n k : ℕ) → ys ≡ xs → k ≡ n → length xs ≡ n → n ≤ length before → Laid c (holds (given (map c xs) e n)) before (ys ++ drop k before)
 laid-front c xs ys before e n k ey ek en h =
     let ly : length ys ≡ n = ap length ey ∙ en in
-    let lp : length ys ≡ length (map c xs) = ly ∙ sym (length-map xs c ∙ en) in
-    ((λ (l : length before < n). absurd (omega arith)),
-     (λ _. (ap (map c) (take-at ys (drop k before) (length (map c xs)) lp ∙ ey), drop-at ys (drop k before) n ly ∙ ap (λ i. drop i before) ek)))
+    let lp : length ys ≡ length (map c xs) = ly ∙ sym (length-map xs c ∙ en) in (
+      (λ (l : length before < n). absurd (omega arith)),
+      (λ _. (ap (map c) (take-at ys (drop k before) (length (map c xs)) lp ∙ ey), drop-at ys (drop k before) n ly ∙ ap (λ i. drop i before) ek)),
+    )

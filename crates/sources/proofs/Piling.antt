@@ -68,7 +68,7 @@ over-one w ws h x q e z more =
       valid = (valid w (a .fit .scale), o .valid);
       points = o .points ∙ ap (exact.pile mixPoint (steps ws)) (k .2);
       numbers = o .numbers ∙ ap (exact.degreeOver (steps ws)) dg;
-      allowance = o .allowance ∙ ap (λ n. exact.allowanceOver (steps ws) n (x .allowance)) dg ∙ ap (exact.allowanceOver (steps ws) (degreeAfter w (degree ps))) al
+      allowance = o .allowance ∙ ap (λ n. exact.allowanceOver (steps ws) n (x .allowance)) dg ∙ ap (exact.allowanceOver (steps ws) (degreeAfter w (degree ps))) al;
     }
 
 pub over : (ws : List Working) (h q : Held) → piled ws (holds h) ≡ holds q → 0 < length (h .points) → Over ws (h .points) (h .allowance) (q .points) (q .allowance)

@@ -64,9 +64,10 @@ point-work c t (holds p) s u k before mid ys x h es o eu em laid ek ly put ex =
     let px : c x ≡ pointAt t ps = first-is c t ps mid fin x (omega arith) (omega arith) whole ex in
     let mp : pointed t (holds p) ≡ holds (righted t p) = ap (λ b. cond b (fails (refuse OffScale 0)) (holds (righted t p))) o in
     let po : pointOf t (holds p) (length before) ≡ Ok (pointAt t ps, p .allowance + (length ps - 1)) = ap (λ b. cond b (Err (refuse OffScale 0)) (cond (ltb (length before) (p .reach)) (Err (refuse Short (p .reach))) (Ok (pointAt t ps, p .allowance + (length ps - 1))))) o ∙ ap (λ b. cond b (Err (refuse Short (p .reach))) (Ok (pointAt t ps, p .allowance + (length ps - 1)))) (le-ltb (length before) (p .reach) l) in
-    let past : drop (p .reach) fin ≡ drop (p .reach) before = drop-further fin mid (length (rightPart t ps)) (p .reach) (omega (arith, length-right t ps)) (whole .1) ∙ low .1 in
-    (ap (λ z. Ok (z, s .allowance + s .degree)) px ∙ ap (λ z. Ok (pointAt t ps, z)) (omega arith) ∙ sym po,
-     laid-by c (pointed t (holds p)) (holds (righted t p)) before fin mp ((λ (v : length before < p .reach). absurd (omega arith)), (λ _. (whole .0, past))))
+    let past : drop (p .reach) fin ≡ drop (p .reach) before = drop-further fin mid (length (rightPart t ps)) (p .reach) (omega (arith, length-right t ps)) (whole .1) ∙ low .1 in (
+      ap (λ z. Ok (z, s .allowance + s .degree)) px ∙ ap (λ z. Ok (pointAt t ps, z)) (omega arith) ∙ sym po,
+      laid-by c (pointed t (holds p)) (holds (righted t p)) before fin mp ((λ (v : length before < p .reach). absurd (omega arith)), (λ _. (whole .0, past))),
+    )
 
 -- the polygon of a source that was surveyed has a size that passes
 pub surveyed-fit : (m : Meaning) (s : Survey) → Sound m → Ok s ≡ surveyOf m → (1 ≤ s .degree) × (s .degree ≤ 16) × (s .allowance ≤ 65535)

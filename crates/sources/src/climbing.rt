@@ -8,6 +8,10 @@ pub fn climb<T>(r: Result<T, Fault>) -> Result<T, Fault>
 {
     match r {
         Ok(x) => Ok(x),
-        Err(f) => Err(Fault { refusal: f.refusal, storey: f.storey.saturating_add(1), place: f.place }),
+        Err(f) => Err(Fault {
+            refusal: f.refusal,
+            storey: f.storey.saturating_add(1),
+            place: f.place,
+        }),
     }
 }

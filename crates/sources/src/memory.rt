@@ -4,12 +4,12 @@ ghost use mathlib.Core.List.{map};
 ghost use denote.Ref.{now as held};
 ghost use Rattle.sources.specs.Meaning.{inMemory};
 ghost use Rattle.sources.specs.Sounds.{memorySound};
+use crate::source::Source;
 use points::fault::Fault;
 use points::fault::Refusal;
 use points::kind::Kind;
 use polygons::size::test_size;
 use workings::survey::Survey;
-use crate::source::Source;
 
 // A polygon in memory: points that were given, with the allowance that they are told to have.
 #[derive(Drop)]
@@ -29,7 +29,11 @@ pub impl<'a, K: Kind> Source for InMemory<'a, K> as InMemorySource {
     fn survey(&self) -> Result<Survey, Fault> {
         let n = self.points.len();
         test_size(n)?;
-        Ok(Survey { degree: n - 1, allowance: self.allowance, reach: n })
+        Ok(Survey {
+            degree: n - 1,
+            allowance: self.allowance,
+            reach: n,
+        })
     }
 
     fn draw(&self, buffer: &mut [K]) -> Result<Survey, Fault> {

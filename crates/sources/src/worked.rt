@@ -3,13 +3,13 @@ ghost use lib.ListN.{length};
 ghost use Rattle.sources.specs.Meaning.{drawOf, Laid};
 ghost use Rattle.sources.specs.Piles.{climbing, work};
 ghost use Rattle.sources.specs.Sounds.{workSound};
+use crate::climbing::climb;
+use crate::source::Source;
 use points::fault::Fault;
 use points::fault::Refusal;
 use points::kind::Kind;
 use workings::survey::Survey;
 use workings::working::Working;
-use crate::climbing::climb;
-use crate::source::Source;
 
 // The source below draws; its fault climbs.
 fn draw_below<S: Source>(below: &S, buffer: &mut [S::K]) -> Result<Survey, Fault>

@@ -59,7 +59,7 @@ keeps-loaded c (holds p) s before h t l =
       points = sym (ap (λ j. map c (take j (s .buffer))) n ∙ l .1 (u .0) .0);
       allowance = sym (ap (λ v. v .allowance) is) ∙ k .3;
       count = n;
-      fit = h
+      fit = h;
     }
 
 -- the reach that is told below changes only the reach that is told above
@@ -112,7 +112,7 @@ keeps-accepted c m ws w s s′ k h =
       points = sym pts;
       allowance = sym (rw .allowance);
       count = ap (λ n. n + 1) (rw .degree) ∙ sym long;
-      fit = fits
+      fit = fits;
     }
 
 pub keeps : {X : Type 0} (c : X → Point) (m : Meaning) {calls : List Call} {ws : List Working} {s : State X} → Reaches c m calls ws s → Keeps c m ws s
@@ -125,12 +125,12 @@ module _ {X : Type 0} (c : X → Point) (width : ℕ) (s : State X) (t : Paramet
   here : (m : Meaning) (ws : List Working) → Keeps c m ws s → (bottom : Meaning) (vs : List Working) → m ≡ piled vs bottom → AccurateFor width bottom (vs ++ ws) t (strandPoint c t s n)
   here m ws k bottom vs e =
       cond-both (offScale t) (Err (refuse OffScale 0)) _ (AccurateFor width bottom (vs ++ ws) t)
-        (λ _. tt)
-        (λ ok. cond-both (ltb (length (s .buffer)) (s .degree + 1)) (Err (refuse Short (s .degree + 1))) _ (AccurateFor width bottom (vs ++ ws) t)
-          (λ _. tt)
-          (λ _. cond-both (ltb n (s .degree + 1)) (Err (refuse Short (s .degree + 1))) (Ok (pointAt t (polygon c s), s .allowance + s .degree)) (AccurateFor width bottom (vs ++ ws) t)
-            (λ _. tt)
-            (λ _. at ok)))
+      (λ _. tt)
+      (λ ok. cond-both (ltb (length (s .buffer)) (s .degree + 1)) (Err (refuse Short (s .degree + 1))) _ (AccurateFor width bottom (vs ++ ws) t)
+      (λ _. tt)
+      (λ _. cond-both (ltb n (s .degree + 1)) (Err (refuse Short (s .degree + 1))) (Ok (pointAt t (polygon c s), s .allowance + s .degree)) (AccurateFor width bottom (vs ++ ws) t)
+      (λ _. tt)
+      (λ _. at ok)))
     where
       at : offScale t ≡ false → Accurate width bottom (vs ++ ws) t (pointAt t (polygon c s)) (s .allowance + s .degree)
       at ok =

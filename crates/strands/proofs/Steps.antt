@@ -63,11 +63,12 @@ point-work c t s k second cs ys x o hb hs ek ec ly put ex =
     let px : c x ≡ pointAt t ps = first-is c t ps mid fin x (omega arith) (omega arith) whole ex in
     let rl : length (rightPart t ps) ≡ k = length-right t ps ∙ lp ∙ sym ek in
     let po : strandPoint c t s (length second) ≡ Ok (pointAt t ps, s .allowance + d) =
-          ap (λ b. cond b (Err (refuse OffScale 0)) (cond (ltb (length (s .buffer)) (d + 1)) (Err (refuse Short (d + 1))) (cond (ltb (length second) (d + 1)) (Err (refuse Short (d + 1))) (Ok (pointAt t ps, s .allowance + d))))) o
-          ∙ ap (λ b. cond b (Err (refuse Short (d + 1))) (cond (ltb (length second) (d + 1)) (Err (refuse Short (d + 1))) (Ok (pointAt t ps, s .allowance + d)))) (le-ltb (length (s .buffer)) (d + 1) hb)
-          ∙ ap (λ b. cond b (Err (refuse Short (d + 1))) (Ok (pointAt t ps, s .allowance + d))) (le-ltb (length second) (d + 1) hs) in
-    (ap (λ z. Ok (z, s .allowance + d)) px ∙ sym po,
-     (whole .0, whole .1 ∙ ap (λ j. drop j mid) rl ∙ dm ∙ ap (λ j. drop j second) (sym rl)))
+    ap (λ b. cond b (Err (refuse OffScale 0)) (cond (ltb (length (s .buffer)) (d + 1)) (Err (refuse Short (d + 1))) (cond (ltb (length second) (d + 1)) (Err (refuse Short (d + 1))) (Ok (pointAt t ps, s .allowance + d))))) o
+    ∙ ap (λ b. cond b (Err (refuse Short (d + 1))) (cond (ltb (length second) (d + 1)) (Err (refuse Short (d + 1))) (Ok (pointAt t ps, s .allowance + d)))) (le-ltb (length (s .buffer)) (d + 1) hb)
+    ∙ ap (λ b. cond b (Err (refuse Short (d + 1))) (Ok (pointAt t ps, s .allowance + d))) (le-ltb (length second) (d + 1) hs) in (
+      ap (λ z. Ok (z, s .allowance + d)) px ∙ sym po,
+      (whole .0, whole .1 ∙ ap (λ j. drop j mid) rl ∙ dm ∙ ap (λ j. drop j second) (sym rl)),
+    )
 
 -- a working that was refused, and one that was done
 module _ {X : Type 0} (c : X → Point) (w : Working) (s : State X) where

@@ -1,5 +1,5 @@
 // Strands: polygons that are reworked call by call on a buffer of the caller's.
-pub mod strand;
+pub mod evaluation;
 pub mod load;
 pub mod rework;
-pub mod evaluation;
+pub mod strand;

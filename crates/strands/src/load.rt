@@ -3,9 +3,9 @@ ghost use lib.ListN.{length};
 ghost use Rattle.sources.specs.Meaning.{Laid};
 ghost use Rattle.strands.specs.States.{numbers, loadOf};
 ghost use Rattle.strands.specs.Histories.{Begins};
+use crate::strand::Strand;
 use points::fault::Fault;
 use sources::source::Source;
-use crate::strand::Strand;
 
 impl Strand {
     // Draws a source onto a buffer; it refuses as draw does.
@@ -15,6 +15,9 @@ impl Strand {
         ensures begins { λ r. ⌜ Begins (K·Kind .coord) (means (now (source .entry))) (now (buffer .exit)) r ⌝ }
     {
         let s = source.draw(buffer)?;
-        Ok(Strand { degree: s.degree, allowance: s.allowance })
+        Ok(Strand {
+            degree: s.degree,
+            allowance: s.allowance,
+        })
     }
 }

@@ -2,13 +2,13 @@ ghost use mathlib.Core.Path.{_≡_};
 ghost use Rattle.workings.specs.declared.working.Working.the-variants.{Left, Right, Raise, Turn};
 ghost use Rattle.strands.specs.States.{state, Step};
 ghost use Rattle.strands.specs.Histories.{Continues};
+use crate::strand::Strand;
 use points::fault::Fault;
 use points::fault::Refusal;
 use points::kind::Kind;
 use points::parameter::Parameter;
 use workings::survey::Survey;
 use workings::working::Working;
-use crate::strand::Strand;
 
 impl Strand {
     // Reworks the polygon. It refuses 1, 3, 4, then 2, and a refused working leaves strand and buffer as found.
@@ -16,7 +16,11 @@ impl Strand {
         ensures step { λ r. ⌜ Step coord working (state (now (self .entry)) (now (buffer .entry))) (state (now (self .exit)) (now (buffer .exit))) r ⌝ }
         ensures continues { λ r. ⌜ Continues coord working (state (now (self .entry)) (now (buffer .entry))) (state (now (self .exit)) (now (buffer .exit))) r ⌝ }
     {
-        let below = Survey { degree: self.degree, allowance: self.allowance, reach: self.degree + 1 };
+        let below = Survey {
+            degree: self.degree,
+            allowance: self.allowance,
+            reach: self.degree + 1,
+        };
         let above = working.after(below)?;
         if buffer.len() < above.degree + 1 {
             return Err(Fault::new(Refusal::Short, above.degree + 1));

@@ -1,13 +1,13 @@
 // Tests of the kernel on values that an independent program computed from the rules.
 #[cfg(test)]
-mod table;
-#[cfg(test)]
 mod mixing;
 #[cfg(test)]
-mod refusals;
+mod opening;
 #[cfg(test)]
 mod piles;
 #[cfg(test)]
+mod refusals;
+#[cfg(test)]
 mod strands;
 #[cfg(test)]
-mod opening;
+mod table;

@@ -7,6 +7,7 @@ use pathreading::opening::open;
 use points::fault::Fault;
 use points::fault::FaultDebug;
 use points::height::Height;
+use points::parameter::Parameter;
 use points::planar::Planar;
 use points::planar::PlanarDebug;
 use points::planar::PlanarEq;
@@ -17,39 +18,84 @@ use std::test::*;
 use workings::working::Working;
 use workings::working::WorkingDebug;
 use workings::working::WorkingPartialEq;
-use points::parameter::Parameter;
 
 // Three planar points (0,0), (4,8), (8,0), the name bow, allowance 0, and the left part at 1/2.
-const BOW: [u8; 42] = [
-    0, 3, 2, 0, 0, 0, 3, 98, 111, 119, 0, 3, 0, 0, 0, 0, 0, 0, 0, 0, 0, 0, 0, 4, 0, 0, 0, 8, 0, 0, 0, 8, 0, 0, 0, 0, 0, 1, 76, 1, 0, 1,
-];
+const BOW: &[u8; 42] =
+    b"\0\x03\x02\0\0\0\x03bow\0\x03\0\0\0\0\0\0\0\0\0\0\0\x04\0\0\0\x08\0\0\0\x08\0\0\0\0\0\x01L\x01\0\x01";
 
 // Where a bow that is cut to so many bytes is refused: at the field that is not whole.
 const CUT_AT: [usize; 42] = [
-    0, 0, 2, 3, 3, 5, 5, 7, 7, 7, 10, 10, 12, 12, 12, 12, 16, 16, 16, 16, 20, 20, 20, 20, 24, 24, 24, 24, 28, 28, 28, 28, 32, 32, 32, 32, 36, 36, 38, 39, 40, 40,
+    0,
+    0,
+    2,
+    3,
+    3,
+    5,
+    5,
+    7,
+    7,
+    7,
+    10,
+    10,
+    12,
+    12,
+    12,
+    12,
+    16,
+    16,
+    16,
+    16,
+    20,
+    20,
+    20,
+    20,
+    24,
+    24,
+    24,
+    24,
+    28,
+    28,
+    28,
+    28,
+    32,
+    32,
+    32,
+    32,
+    36,
+    36,
+    38,
+    39,
+    40,
+    40,
 ];
 
-// A change of one or two bytes of the bow, and the refusal that it gives; 0 where it still opens.
+// A change of one or two bytes of the bow, and the refusal that it gives, 0 where it still opens.
+// Where it is, its first byte and its second, if two are changed, then the refusal's number and place.
 #[derive(Clone, Copy)]
-struct Change {
-    at: usize,
-    first: u8,
-    second: Option<u8>,
-    number: u8,
-    place: usize,
-}
+struct Change(usize, u8, Option<u8>, u8, usize);
 
 #[test]
 fn bow_opens() -> Result<(), Fail> {
-    let path: Opened<Planar> = open(&BOW)?;
+    let path: Opened<Planar> = open(BOW)?;
     check_eq(path.name(), b"bow".as_slice())?;
     check_eq(path.allowance(), 0)?;
     let mut points = [Planar { x: 9, y: 9 }; 4];
     check_eq(path.points(&mut points)?, 3)?;
-    check_eq(points, [Planar { x: 0, y: 0 }, Planar { x: 4, y: 8 }, Planar { x: 8, y: 0 }, Planar { x: 9, y: 9 }])?;
+    check_eq(
+        points,
+        [
+            Planar { x: 0, y: 0 },
+            Planar { x: 4, y: 8 },
+            Planar { x: 8, y: 0 },
+            Planar { x: 9, y: 9 },
+        ],
+    )?;
     let mut workings = [Working::Turn; 2];
     check_eq(path.workings(&mut workings)?, 1)?;
-    check_eq(workings, [Working::Left(Parameter { a: 1, k: 1 }), Working::Turn])?;
+    check_eq(
+        workings,
+        [Working::Left(Parameter { a: 1, k: 1 }), Working::Turn],
+    )?;
     refused(path.points(&mut points[0..2]), 2, 3)?;
     refused(path.workings(&mut workings[0..0]), 2, 1)
 }
@@ -64,43 +110,43 @@ fn cut_files_are_refused() -> Result<(), Fail> {
 }
 
 fn try_change(c: &Change) -> Result<(), Fail> {
-    let mut file = BOW;
-    if c.at > 40 {
+    let mut file = *BOW;
+    if c.0 > 40 {
         return Err(Fail::new("a change past the file"));
     }
-    file[c.at] = c.first;
-    if let Some(b) = c.second {
-        file[c.at + 1] = b;
+    file[c.0] = c.1;
+    if let Some(b) = c.2 {
+        file[c.0 + 1] = b;
     }
     let r: Result<Opened<Planar>, Fault> = open(&file);
-    if c.number == 0 {
+    if c.3 == 0 {
         return check(r.is_ok());
     }
-    refused(r, c.number, c.place)
+    refused(r, c.3, c.4)
 }
 
 #[test]
 fn counts_are_tested() -> Result<(), Fail> {
     let changes = [
-        Change { at: 0, first: 0, second: Some(2), number: 5, place: 0 },
-        Change { at: 0, first: 0, second: Some(4), number: 5, place: 0 },
-        Change { at: 0, first: 1, second: Some(3), number: 5, place: 0 },
-        Change { at: 2, first: 0, second: None, number: 5, place: 2 },
-        Change { at: 2, first: 4, second: None, number: 5, place: 2 },
-        Change { at: 3, first: 255, second: Some(255), number: 0, place: 0 },
-        Change { at: 5, first: 0, second: Some(64), number: 6, place: 7 },
-        Change { at: 5, first: 0, second: Some(65), number: 12, place: 5 },
-        Change { at: 5, first: 0, second: Some(35), number: 6, place: 42 },
-        Change { at: 5, first: 0, second: Some(0), number: 3, place: 7 },
-        Change { at: 10, first: 0, second: Some(0), number: 3, place: 10 },
-        Change { at: 10, first: 0, second: Some(1), number: 3, place: 10 },
-        Change { at: 10, first: 0, second: Some(2), number: 7, place: 30 },
-        Change { at: 10, first: 0, second: Some(17), number: 6, place: 40 },
-        Change { at: 10, first: 0, second: Some(18), number: 3, place: 10 },
-        Change { at: 36, first: 0, second: Some(0), number: 7, place: 38 },
-        Change { at: 36, first: 0, second: Some(2), number: 6, place: 42 },
-        Change { at: 36, first: 1, second: Some(0), number: 6, place: 42 },
-        Change { at: 36, first: 1, second: Some(1), number: 12, place: 36 },
+        Change(0, 0, Some(2), 5, 0),
+        Change(0, 0, Some(4), 5, 0),
+        Change(0, 1, Some(3), 5, 0),
+        Change(2, 0, None, 5, 2),
+        Change(2, 4, None, 5, 2),
+        Change(3, 255, Some(255), 0, 0),
+        Change(5, 0, Some(64), 6, 7),
+        Change(5, 0, Some(65), 12, 5),
+        Change(5, 0, Some(35), 6, 42),
+        Change(5, 0, Some(0), 3, 7),
+        Change(10, 0, Some(0), 3, 10),
+        Change(10, 0, Some(1), 3, 10),
+        Change(10, 0, Some(2), 7, 30),
+        Change(10, 0, Some(17), 6, 40),
+        Change(10, 0, Some(18), 3, 10),
+        Change(36, 0, Some(0), 7, 38),
+        Change(36, 0, Some(2), 6, 42),
+        Change(36, 1, Some(0), 6, 42),
+        Change(36, 1, Some(1), 12, 36),
     ];
     for c in &changes {
         try_change(c)?;
@@ -111,17 +157,17 @@ fn counts_are_tested() -> Result<(), Fail> {
 #[test]
 fn workings_are_tested() -> Result<(), Fail> {
     let changes = [
-        Change { at: 38, first: 108, second: None, number: 11, place: 38 },
-        Change { at: 38, first: 85, second: None, number: 7, place: 39 },
-        Change { at: 38, first: 84, second: None, number: 7, place: 39 },
-        Change { at: 38, first: 82, second: None, number: 0, place: 0 },
-        Change { at: 38, first: 255, second: None, number: 11, place: 38 },
-        Change { at: 39, first: 0, second: None, number: 0, place: 0 },
-        Change { at: 39, first: 15, second: None, number: 0, place: 0 },
-        Change { at: 39, first: 16, second: None, number: 1, place: 39 },
-        Change { at: 39, first: 255, second: None, number: 1, place: 39 },
-        Change { at: 40, first: 0, second: Some(2), number: 0, place: 0 },
-        Change { at: 40, first: 0, second: Some(3), number: 1, place: 39 },
+        Change(38, 108, None, 11, 38),
+        Change(38, 85, None, 7, 39),
+        Change(38, 84, None, 7, 39),
+        Change(38, 82, None, 0, 0),
+        Change(38, 255, None, 11, 38),
+        Change(39, 0, None, 0, 0),
+        Change(39, 15, None, 0, 0),
+        Change(39, 16, None, 1, 39),
+        Change(39, 255, None, 1, 39),
+        Change(40, 0, Some(2), 0, 0),
+        Change(40, 0, Some(3), 1, 39),
     ];
     for c in &changes {
         try_change(c)?;
@@ -131,9 +177,9 @@ fn workings_are_tested() -> Result<(), Fail> {
 
 #[test]
 fn other_kinds_are_foreign() -> Result<(), Fail> {
-    let heights: Result<Opened<Height>, Fault> = open(&BOW);
+    let heights: Result<Opened<Height>, Fault> = open(BOW);
     refused(heights, 5, 2)?;
-    let samples: Result<Opened<Sample>, Fault> = open(&BOW);
+    let samples: Result<Opened<Sample>, Fault> = open(BOW);
     refused(samples, 5, 2)
 }
 
@@ -155,12 +201,60 @@ fn long_files_are_refused(rt: LibcRuntime) -> Result<(), Fail> {
 #[test]
 fn press_is_tested() -> Result<(), Fail> {
     let mut file = [
-        0, 3, 3, 0, 0, 0, 0, 0, 2, 0, 0, 0, 1, 0, 0, 0, 2, 15, 255, 255, 255, 255, 255, 255, 255, 255, 254, 0, 0, 0, 0,
+        0,
+        3,
+        3,
+        0,
+        0,
+        0,
+        0,
+        0,
+        2,
+        0,
+        0,
+        0,
+        1,
+        0,
+        0,
+        0,
+        2,
+        15,
+        255,
+        255,
+        255,
+        255,
+        255,
+        255,
+        255,
+        255,
+        254,
+        0,
+        0,
+        0,
+        0,
     ];
     let path: Opened<Sample> = open(&file)?;
-    let mut points = [Sample { x: 0, y: 0, press: 0 }; 2];
+    let mut points = [Sample {
+        x: 0,
+        y: 0,
+        press: 0,
+    }; 2];
     check_eq(path.points(&mut points)?, 2)?;
-    check_eq(points, [Sample { x: 1, y: 2, press: 4095 }, Sample { x: -1, y: -2, press: 0 }])?;
+    check_eq(
+        points,
+        [
+            Sample {
+                x: 1,
+                y: 2,
+                press: 4095,
+            },
+            Sample {
+                x: -1,
+                y: -2,
+                press: 0,
+            },
+        ],
+    )?;
     file[17] = 16;
     let r: Result<Opened<Sample>, Fault> = open(&file);
     refused(r, 8, 17)

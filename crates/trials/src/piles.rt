@@ -38,7 +38,12 @@ fn over<S>(below: S, working: Working) -> Worked<S> {
 }
 
 // A refusal with number, storey and place.
-pub fn refused_at<T: Drop>(r: Result<T, Fault>, number: u8, storey: u8, place: usize) -> Result<(), Fail> {
+pub fn refused_at<T: Drop>(
+    r: Result<T, Fault>,
+    number: u8,
+    storey: u8,
+    place: usize,
+) -> Result<(), Fail> {
     match r {
         Ok(_) => Err(Fail::new("not refused")),
         Err(f) => {
@@ -51,27 +56,63 @@ pub fn refused_at<T: Drop>(r: Result<T, Fault>, number: u8, storey: u8, place: u
 
 #[test]
 fn points_of_the_bow() -> Result<(), Fail> {
-    let bow = InMemory { points: &BOW, allowance: 0 };
+    let bow = InMemory {
+        points: &BOW,
+        allowance: 0,
+    };
     let mut buffer = [ORIGIN; 3];
-    check_eq(point(&bow, Parameter { a: 0, k: 0 }, &mut buffer)?, (ORIGIN, 2))?;
+    check_eq(
+        point(&bow, Parameter { a: 0, k: 0 }, &mut buffer)?,
+        (ORIGIN, 2),
+    )?;
     check_eq(point(&bow, HALF, &mut buffer)?, (Planar { x: 4, y: 4 }, 2))?;
-    check_eq(point(&bow, Parameter { a: 1, k: 2 }, &mut buffer)?, (Planar { x: 2, y: 3 }, 2))?;
-    check_eq(point(&bow, Parameter { a: 1, k: 0 }, &mut buffer)?, (Planar { x: 8, y: 0 }, 2))?;
+    check_eq(
+        point(&bow, Parameter { a: 1, k: 2 }, &mut buffer)?,
+        (Planar { x: 2, y: 3 }, 2),
+    )?;
+    check_eq(
+        point(&bow, Parameter { a: 1, k: 0 }, &mut buffer)?,
+        (Planar { x: 8, y: 0 }, 2),
+    )?;
     check_eq(coordinate(&bow, HALF, 1, &mut buffer)?, (4, 2))?;
     starts(&buffer, &[4, 4, 6, 4, 8, 0])?;
-    refused_at(point(&bow, Parameter { a: 3, k: 1 }, &mut buffer[0..0]), 1, 0, 0)?;
+    refused_at(
+        point(&bow, Parameter { a: 3, k: 1 }, &mut buffer[0..0]),
+        1,
+        0,
+        0,
+    )?;
     refused_at(point(&bow, HALF, &mut buffer[0..2]), 2, 0, 3)
 }
 
 #[test]
 fn worn_at_the_last_unit() -> Result<(), Fail> {
-    let taken = over(InMemory { points: &HILL, allowance: 65533 }, Working::Left(HALF));
-    check_eq(taken.survey()?, Survey { degree: 2, allowance: 65535, reach: 3 })?;
+    let taken = over(
+        InMemory {
+            points: &HILL,
+            allowance: 65533,
+        },
+        Working::Left(HALF),
+    );
+    check_eq(
+        taken.survey()?,
+        Survey {
+            degree: 2,
+            allowance: 65535,
+            reach: 3,
+        },
+    )?;
     let mut buffer = [Height { z: 9 }; 4];
     taken.draw(&mut buffer)?;
     starts(&buffer, &[0, 3, 5, 9])?;
     check_eq(point(&taken, HALF, &mut buffer)?, (Height { z: 3 }, 65537))?;
-    let worn = over(InMemory { points: &HILL, allowance: 65534 }, Working::Left(HALF));
+    let worn = over(
+        InMemory {
+            points: &HILL,
+            allowance: 65534,
+        },
+        Working::Left(HALF),
+    );
     refused_at(worn.survey(), 4, 0, 2)?;
     refused_at(over(worn, Working::Turn).survey(), 4, 1, 2)
 }
@@ -80,25 +121,68 @@ fn worn_at_the_last_unit() -> Result<(), Fail> {
 fn a_pile_over_a_quarter_circle() -> Result<(), Fail> {
     let mut points = [ORIGIN; 4];
     fill(&mut points, &[2560, 0, 2560, 1414, 1414, 2560, 0, 2560]);
-    let trimmed = over(InMemory { points: &points, allowance: 1 }, Working::Left(Parameter { a: 3, k: 2 }));
+    let trimmed = over(
+        InMemory {
+            points: &points,
+            allowance: 1,
+        },
+        Working::Left(Parameter { a: 3, k: 2 }),
+    );
     let raised = over(trimmed, Working::Raise);
-    let pile = over(over(raised, Working::Right(Parameter { a: 1, k: 2 })), Working::Turn);
-    check_eq(pile.survey()?, Survey { degree: 4, allowance: 9, reach: 5 })?;
+    let pile = over(
+        over(raised, Working::Right(Parameter { a: 1, k: 2 })),
+        Working::Turn,
+    );
+    check_eq(
+        pile.survey()?,
+        Survey {
+            degree: 4,
+            allowance: 9,
+            reach: 5,
+        },
+    )?;
     let mut buffer = [ORIGIN; 5];
     pile.draw(&mut buffer)?;
-    starts(&buffer, &[997, 2360, 1514, 2141, 1954, 1776, 2277, 1304, 2445, 762])?;
-    check_eq(point(&pile, HALF, &mut buffer)?, (Planar { x: 1896, y: 1724 }, 13))?;
-    check_eq(point(&pile, Parameter { a: 5, k: 3 }, &mut buffer)?, (Planar { x: 2070, y: 1509 }, 13))?;
+    starts(
+        &buffer,
+        &[997, 2360, 1514, 2141, 1954, 1776, 2277, 1304, 2445, 762],
+    )?;
+    check_eq(
+        point(&pile, HALF, &mut buffer)?,
+        (Planar { x: 1896, y: 1724 }, 13),
+    )?;
+    check_eq(
+        point(&pile, Parameter { a: 5, k: 3 }, &mut buffer)?,
+        (Planar { x: 2070, y: 1509 }, 13),
+    )?;
     refused_at(pile.draw(&mut buffer[0..4]), 2, 0, 5)
 }
 
 #[test]
 fn faults_climb() -> Result<(), Fail> {
-    let few = InMemory { points: &HILL[0..1], allowance: 0 };
-    let three = over(over(over(few, Working::Turn), Working::Raise), Working::Left(HALF));
+    let few = InMemory {
+        points: &HILL[0..1],
+        allowance: 0,
+    };
+    let three = over(
+        over(over(few, Working::Turn), Working::Raise),
+        Working::Left(HALF),
+    );
     refused_at(three.survey(), 3, 3, 1)?;
     let bad = Working::Left(Parameter { a: 3, k: 1 });
-    let low = over(over(over(InMemory { points: &HILL, allowance: 0 }, bad), Working::Raise), Working::Turn);
+    let low = over(
+        over(
+            over(
+                InMemory {
+                    points: &HILL,
+                    allowance: 0,
+                },
+                bad,
+            ),
+            Working::Raise,
+        ),
+        Working::Turn,
+    );
     refused_at(low.survey(), 1, 2, 0)?;
     let mut buffer = [Height { z: 9 }; 2];
     refused_at(low.draw(&mut buffer), 1, 2, 0)?;
@@ -119,9 +203,42 @@ fn storeys_stop() -> Result<(), Fail> {
 #[test]
 fn raised_to_the_highest_degree() -> Result<(), Fail> {
     let mut points = [Height { z: 0 }; 16];
-    fill(&mut points, &[0, 67, 133, 200, 267, 333, 400, 467, 533, 600, 667, 733, 800, 867, 933, 1000]);
-    let once = over(InMemory { points: &points, allowance: 0 }, Working::Raise);
-    check_eq(once.survey()?, Survey { degree: 16, allowance: 1, reach: 17 })?;
+    fill(
+        &mut points,
+        &[
+            0,
+            67,
+            133,
+            200,
+            267,
+            333,
+            400,
+            467,
+            533,
+            600,
+            667,
+            733,
+            800,
+            867,
+            933,
+            1000,
+        ],
+    );
+    let once = over(
+        InMemory {
+            points: &points,
+            allowance: 0,
+        },
+        Working::Raise,
+    );
+    check_eq(
+        once.survey()?,
+        Survey {
+            degree: 16,
+            allowance: 1,
+            reach: 17,
+        },
+    )?;
     let twice = over(once, Working::Raise);
     refused_at(twice.survey(), 3, 0, 17)
 }

@@ -20,7 +20,10 @@ pub impl Made for Height as HeightMade {
 
 pub impl Made for Planar as PlanarMade {
     fn made(axes: [i32; 3]) -> Planar {
-        Planar { x: axes[0], y: axes[1] }
+        Planar {
+            x: axes[0],
+            y: axes[1],
+        }
     }
 }
 
@@ -28,7 +31,11 @@ pub impl Made for Planar as PlanarMade {
 pub impl Made for Sample as SampleMade {
     fn made(axes: [i32; 3]) -> Sample {
         let press = u16::try_from(axes[2]).unwrap_or(0);
-        Sample { x: axes[0], y: axes[1], press }
+        Sample {
+            x: axes[0],
+            y: axes[1],
+            press,
+        }
     }
 }
 

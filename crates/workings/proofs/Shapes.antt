@@ -65,7 +65,7 @@ puts-part c (Ok u) qs ps k xs ys e same lq h ly p =
 -- A working done by a call on the first k places of a buffer, which answered r and left ys there.
 module _ {X : Type 0} (c : X → Point) (w : Working) (n k : ℕ) (xs ys : List X) (r : Result (Unit {0}) Fault) (ps : List Point) (m : ℕ) where
   pub applied : tested w n ≡ Ok m → m ≡ n → k ≡ n + 1 → 1 ≤ n → n + 1 ≤ length xs → r ≡ Ok tt → ps ≡ shape w (map c (take k xs)) → degreeAfter w n ≡ n → length ys ≡ length (take k xs) → Puts c ps r (take k xs) ys
-    → (r ≡ roomy (tested w n) (length xs)) × Puts c (shape w (map c (take (n + 1) xs))) r xs (ys ++ drop k xs)
+      → (r ≡ roomy (tested w n) (length xs)) × Puts c (shape w (map c (take (n + 1) xs))) r xs (ys ++ drop k xs)
   applied et em ek h l er ep ed ly p =
       let same : ps ≡ shape w (map c (take (n + 1) xs)) = ep ∙ ap (λ i. shape w (map c (take i xs))) ek in
       let long : length (map c (take (n + 1) xs)) ≡ n + 1 = length-map (take (n + 1) xs) c ∙ length-take-le (n + 1) xs l in

@@ -4,6 +4,7 @@ ghost use mathlib.Core.List.{map};
 ghost use lib.ListN.{length, take};
 ghost use Rattle.polygons.specs.Buffers.{Puts};
 ghost use Rattle.workings.specs.Workings.{tested, roomy, shape};
+use crate::working::Working;
 use points::fault::Fault;
 use points::fault::Refusal;
 use points::kind::Kind;
@@ -11,7 +12,6 @@ use polygons::elevation::raise;
 use polygons::reversal::turn;
 use polygons::subdivision::left;
 use polygons::subdivision::right;
-use crate::working::Working;
 
 impl Working {
     // Works the polygon of this degree that stands first on the buffer; it refuses 1, 3, then 2.

@@ -5,13 +5,13 @@ ghost use Rattle.std.specs.declared.result.Result.the-variants.{Ok, Err};
 ghost use Rattle.points.specs.Refusals.{refuse};
 ghost use Rattle.points.specs.declared.fault.Refusal.the-variants.{OffScale};
 ghost use Rattle.workings.specs.Workings.{offScaleIn, chargeOf, degreeAfter, tested, after};
+use crate::survey::Survey;
 use points::fault::Fault;
 use points::fault::Refusal;
 use points::parameter::Parameter;
 use points::parameter::ParameterDebug;
 use points::parameter::ParameterEq;
 use points::parameter::ParameterPartialEq;
-use crate::survey::Survey;
 
 // What can be done to a control polygon: its left part at a parameter, its right part, one degree more, or the points in the other order.
 #[derive(Clone, Copy, PartialEq, Eq, Debug)]
@@ -87,6 +87,10 @@ impl Working {
             return Err(Fault::new(Refusal::Worn, charge));
         }
         let reach = below.reach.max(degree + 1);
-        Ok(Survey { degree, allowance: allowance as u16, reach })
+        Ok(Survey {
+            degree,
+            allowance: allowance as u16,
+            reach,
+        })
     }
 }

@@ -12,6 +12,7 @@ loop-i-again g c =
     let p = c .loop-i .p in
     let i = c .loop-i .i in
     let a = c .index-p-i in
-    let b = c .index-p-i-in-loop-i in
-    (pass-more co _ _ p i (c .mix .result) (a .result) (b .result) (omega arith) (c .loop-i .inv .0) (read-is co p i (a .result) (omega arith) (a .is)) (read-is co p (i + 1) (b .result) (omega arith) (b .is)) (c .mix .ensures),
-     drop-set-lt (c .args .n) p i (c .mix .result) (c .loop-i-test .taken) ∙ c .loop-i .inv .1)
+    let b = c .index-p-i-in-loop-i in (
+      pass-more co _ _ p i (c .mix .result) (a .result) (b .result) (omega arith) (c .loop-i .inv .0) (read-is co p i (a .result) (omega arith) (a .is)) (read-is co p (i + 1) (b .result) (omega arith) (b .is)) (c .mix .ensures),
+      drop-set-lt (c .args .n) p i (c .mix .result) (c .loop-i-test .taken) ∙ c .loop-i .inv .1,
+    )

@@ -17,5 +17,5 @@ returns g c =
     let long : length (c .reverse-2 .last .self) ≡ length (c .args .polygon .now) = c .reverse-2 .kept .self ∙ c .right-part .kept .p ∙ c .reverse .kept .self in
     record {
       answer = sym (t .2);
-      left = puts-left co (c .args .t) (w .num) (w .den) (v .num) (v .den) (c .args .polygon .now) (c .right-part .last .p) (c .reverse-2 .last .self) (w .weighs .2) (t .0) (t .1) (c .complement .ensures .0) (c .complement .ensures .1) long back (c .reverse-2 .ensures .after)
+      left = puts-left co (c .args .t) (w .num) (w .den) (v .num) (v .den) (c .args .polygon .now) (c .right-part .last .p) (c .reverse-2 .last .self) (w .weighs .2) (t .0) (t .1) (c .complement .ensures .0) (c .complement .ensures .1) long back (c .reverse-2 .ensures .after);
     }

@@ -23,5 +23,5 @@ returns g c =
     let l : n ≤ length (c .args .buffer .now) = omega (arith, m .2) in
     record {
       answer = drawn-ok (given (map co xs) e n) _ _ _ (m .0) (m .1) l;
-      laid = laid-by co _ _ _ _ (m .0) (laid-front co xs _ _ e n (n - 0) (c .copy-from-slice .ensures .after) (omega arith) refl l)
+      laid = laid-by co _ _ _ _ (m .0) (laid-front co xs _ _ e n (n - 0) (c .copy-from-slice .ensures .after) (omega arith) refl l);
     }
