@@ -5,7 +5,7 @@ use mathlib.Core.Path.{_≡_, refl, sym, ap, subst, _∙_}
 use mathlib.Core.Bool.{Bool, true, false, cond}
 use mathlib.Core.List.{List, [], _∷_, _++_, map}
 use lib.Dec.{ltb}
-use lib.ListN.{length, take}
+use lib.ListN.{length, take, drop}
 use Rattle.std.specs.declared.result.Result.{Result}
 use Rattle.std.specs.declared.result.Result.the-variants.{Ok, Err}
 use Rattle.std.proofs.shelf.Tests.{cond-both}
@@ -19,7 +19,7 @@ use Rattle.workings.specs.declared.survey.Survey.{Survey}
 use Rattle.workings.specs.declared.working.Working.{Working}
 use Rattle.workings.specs.Workings.{shape, chargeOf, degreeAfter, tested, charged, after}
 use Rattle.workings.proofs.Tests.{err-ok, passed, after-ok}
-use Rattle.workings.proofs.Shapes.{length-shape}
+use Rattle.workings.proofs.Shapes.{grows, length-shape}
 use Rattle.sources.specs.Meaning.{Meaning, fails, holds, Held, Fit, Sound, Laid, drawOf}
 use Rattle.sources.specs.Meaning as meaning
 use Rattle.sources.specs.Piles.{settled, work, piled}
@@ -41,7 +41,7 @@ pub record Keeps {X : Type 0} (c : X → Point) (m : Meaning) (ws : List Working
   pub count : s .degree + 1 ≡ length (held .points)
   pub fit : Fit held
 
-told-ok : (r : Result Survey Fault) (d e : ℕ) → told r ≡ Ok (d, e) → (t : Survey) × (r ≡ Ok t) × (t .degree ≡ d) × (t .allowance ≡ e)
+pub told-ok : (r : Result Survey Fault) (d e : ℕ) → told r ≡ Ok (d, e) → (t : Survey) × (r ≡ Ok t) × (t .degree ≡ d) × (t .allowance ≡ e)
 told-ok (Err f) d e q = err-ok f (d, e) q
 told-ok (Ok t) d e q = let k : _≡_ {A = ℕ × ℕ} (t .degree, t .allowance) (d, e) = cc in (t, refl, ap (λ v. v .0) k, ap (λ v. v .1) k)
 
@@ -114,6 +114,20 @@ keeps-accepted c m ws w s s′ k h =
       count = ap (λ n. n + 1) (rw .degree) ∙ sym long;
       fit = fits;
     }
+
+-- an accepted working leaves the places past its polygon, which is no smaller than the one before
+pub step-rest : {X : Type 0} (c : X → Point) (m : Meaning) (ws : List Working) (w : Working) (s s′ : State X) → Keeps c m ws s → Step c w s s′ (Ok tt) → (s .degree ≤ s′ .degree) × (drop (s′ .degree + 1) (s′ .buffer) ≡ drop (s′ .degree + 1) (s .buffer))
+step-rest c m ws w s s′ k h =
+    let a = accepts c w (reworkOf w s) s s′ h in
+    let t : Survey = a .0 in
+    let r : Reworked c w t s s′ = a .2 in
+    let below : Survey = record { degree = s .degree; allowance = s .allowance; reach = s .degree + 1 } in
+    let is = after-ok w below t (placed-ok (after w below) t (length (s .buffer)) (a .1)) .fit .is in
+    let n : length (polygon c s) ≡ s .degree + 1 = ap length (sym (k .points)) ∙ sym (k .count) in
+    let long : length (shape w (polygon c s)) ≡ s′ .degree + 1 = length-shape w (polygon c s) (omega arith) ∙ ap (λ j. degreeAfter w j + 1) (let z : length (polygon c s) - 1 ≡ s .degree = omega arith in z) ∙ ap (λ j. j + 1) (sym is ∙ sym (r .degree)) in
+    let up = grows w (s .degree) in
+    let d = r .degree in
+    (omega arith, subst (λ j. drop j (s′ .buffer) ≡ drop j (s .buffer)) long (r .buffer .1))
 
 pub keeps : {X : Type 0} (c : X → Point) (m : Meaning) {calls : List Call} {ws : List Working} {s : State X} → Reaches c m calls ws s → Keeps c m ws s
 keeps c m {s = s} (loaded before h t l) = keeps-loaded c m s before h t l

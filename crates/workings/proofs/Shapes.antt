@@ -24,7 +24,7 @@ use Rattle.polygons.specs.Buffers.{sized, scaled, Puts}
 use Rattle.workings.specs.declared.working.Working.{Working}
 use Rattle.workings.specs.declared.working.Working.the-variants.{Left, Right, Raise, Turn}
 use Rattle.workings.specs.Workings.{place, step, shape, degreeAfter, tested, roomy}
-use Rattle.workings.proofs.Tests.{err-ok}
+use Rattle.workings.proofs.Tests.{err-ok, tested-ok}
 
 -- no working lowers the degree
 pub grows : (w : Working) (n : ℕ) → n ≤ degreeAfter w n
@@ -62,12 +62,24 @@ puts-part c (Ok u) qs ps k xs ys e same lq h ly p =
     whole : {X : Type 0} (ys : List X) (n : ℕ) → length ys ≤ n → take n ys ≡ ys
     whole ys n l = take-all n ys l
 
--- A working done by a call on the first k places of a buffer, which answered r and left ys there.
-module _ {X : Type 0} (c : X → Point) (w : Working) (n k : ℕ) (xs ys : List X) (r : Result (Unit {0}) Fault) (ps : List Point) (m : ℕ) where
-  pub applied : tested w n ≡ Ok m → m ≡ n → k ≡ n + 1 → 1 ≤ n → n + 1 ≤ length xs → r ≡ Ok tt → ps ≡ shape w (map c (take k xs)) → degreeAfter w n ≡ n → length ys ≡ length (take k xs) → Puts c ps r (take k xs) ys
+-- A working w that keeps the degree n, done by a call on the first k places of a buffer; it answered r and left ys there.
+module _ {X : Type 0} (c : X → Point) (w : Working) (n m k : ℕ) (xs : List X) (test : tested w n ≡ Ok m) (ek : k ≡ n + 1) where
+  -- the part that the call works on is a polygon
+  pub part-sized : m + 1 ≤ length xs → (2 ≤ length (take k xs)) × (length (take k xs) ≤ 17)
+  part-sized l =
+      let t = tested-ok w n m test in
+      let g = grows w n in
+      let i = t .is in
+      let p : length (take k xs) ≡ k = length-take-le k xs (omega arith) in
+      (omega arith, omega arith)
+
+  pub applied : (v : Working) (ys : List X) (r : Result (Unit {0}) Fault) → w ≡ v → degreeAfter v n ≡ n → m + 1 ≤ length xs → r ≡ Ok tt → length ys ≡ length (take k xs) → Puts c (shape v (map c (take k xs))) r (take k xs) ys
       → (r ≡ roomy (tested w n) (length xs)) × Puts c (shape w (map c (take (n + 1) xs))) r xs (ys ++ drop k xs)
-  applied et em ek h l er ep ed ly p =
-      let same : ps ≡ shape w (map c (take (n + 1) xs)) = ep ∙ ap (λ i. shape w (map c (take i xs))) ek in
-      let long : length (map c (take (n + 1) xs)) ≡ n + 1 = length-map (take (n + 1) xs) c ∙ length-take-le (n + 1) xs l in
+  applied v ys r is same l er ly p =
+      let t = tested-ok w n m test in
+      let stays : degreeAfter w n ≡ n = ap (λ u. degreeAfter u n) is ∙ same in
+      let mn : m ≡ n = t .is ∙ stays in
+      let shapes : shape v (map c (take k xs)) ≡ shape w (map c (take (n + 1) xs)) = ap (λ u. shape u (map c (take k xs))) (sym is) ∙ ap (λ i. shape w (map c (take i xs))) ek in
+      let long : length (map c (take (n + 1) xs)) ≡ n + 1 = length-map (take (n + 1) xs) c ∙ length-take-le (n + 1) xs (omega arith) in
       let many : length (shape w (map c (take (n + 1) xs))) ≡ k = length-shape w (map c (take (n + 1) xs)) (omega arith) ∙ ap (λ i. degreeAfter w i + 1) (let q : length (map c (take (n + 1) xs)) - 1 ≡ n = omega arith in q) ∙ omega arith in
-      (er ∙ sym (roomy-ok (tested w n) m (length xs) et (omega arith)), puts-part c r (shape w (map c (take (n + 1) xs))) ps k xs ys er same many (omega arith) ly p)
+      (er ∙ sym (roomy-ok (tested w n) m (length xs) test (omega arith)), puts-part c r (shape w (map c (take (n + 1) xs))) (shape v (map c (take k xs))) k xs ys er shapes many (omega arith) ly p)
