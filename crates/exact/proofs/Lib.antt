@@ -11,3 +11,7 @@ pub mod Carry
 pub mod Pile
 pub mod Anywhere
 pub mod Box
+pub mod Flat
+pub mod Pieces
+pub mod Same
+pub mod Spans

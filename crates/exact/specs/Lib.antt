@@ -6,3 +6,6 @@ pub mod Curve
 pub mod Workings
 pub mod Accuracy
 pub mod Laws
+pub mod Flat
+pub mod Pieces
+pub mod Spans

@@ -52,7 +52,7 @@ at-raised ps (suc k) h l = raise-inner (λ i. mixPoint i (length ps)) ps k origi
 at-raised-last : (ps : List Point) → 1 ≤ length ps → at (raised ps) (length ps) ≡ at ps (length ps - 1)
 at-raised-last ps h = raise-last (λ i. mixPoint i (length ps)) ps origin h ∙ ap (at ps) (sym (sub-one (length ps)))
 
--- in place: xs is the board, with its last place d written by the last point y, and then mixed from the top down
+-- in place: xs is the buffer, with its last place d written by the last point y, and then mixed from the top down
 pub raised-all : {X : Type 0} (c : X → Point) (xs : List X) (y : X) (d i : ℕ) (qs : List Point)
     → length xs ≡ d + 1 → 1 ≤ d → length qs ≡ d + 1 → y ≡ getD xs (d - 1) y → i ≡ 1
     → FromTop (raising d) (map c (set xs d y)) qs i d → qs ≡ raised (map c (take d xs))

@@ -1,5 +1,3 @@
-use crate::made::Made;
-use crate::made::fill;
 use points::fault::Fault;
 use points::kind::Kind;
 use points::parameter::Parameter;
@@ -11,6 +9,8 @@ use polygons::reversal::turn;
 use polygons::subdivision::left;
 use polygons::subdivision::right;
 use std::io;
+use tables::made::Made;
+use tables::made::fill;
 
 // What a call left first on a buffer, or its refusal.
 fn list_points<K: Kind>(

@@ -1,12 +1,8 @@
 // Works each polygon of a table on standard input by every construction in place, and prints what they give.
 // A line is a kind, k and a of a parameter, a tolerance, and the axis values of the points, point after point.
 mod listing;
-mod made;
 
 use listing::list_polygon;
-use made::HeightMade;
-use made::PlanarMade;
-use made::SampleMade;
 use points::height::Height;
 use points::height::HeightKind;
 use points::parameter::Parameter;
@@ -16,6 +12,9 @@ use points::sample::Sample;
 use points::sample::SampleKind;
 use std::error::AnyError;
 use std::io::Read;
+use tables::made::HeightMade;
+use tables::made::PlanarMade;
+use tables::made::SampleMade;
 
 fn list_line(rt: &LibcRuntime, line: &str) -> Result<(), AnyError> {
     let mut words = line.split_whitespace();

@@ -17,6 +17,7 @@ use Rattle.points.specs.Points.{Point}
 use Rattle.workings.specs.declared.working.Working.the-variants.{Left}
 use Rattle.sources.specs.Meaning.{holds, Held}
 use Rattle.sources.specs.Accuracy.{along, Stands, AccurateOver, AccurateFor}
+use Rattle.flattening.proofs.Bites.{chords-bite}
 use Rattle.promises.specs.Bites.{itself, height, half, one, rise, step, Bites}
 
 close : (e : ℕ) (z : ℤ) → WithinHalf e z (whole z)
@@ -64,6 +65,7 @@ not-from-elsewhere h =
 
 pub bites : Bites
 bites = record {
+  chords = chords-bite;
   stands = stands;
   not-the-first = not-the-first;
   not-without-degree = not-without-degree;

@@ -9,6 +9,7 @@ use Rattle.points.specs.Points.{Point}
 use Rattle.workings.specs.declared.working.Working.the-variants.{Left}
 use Rattle.sources.specs.Meaning.{Meaning, holds, Held}
 use Rattle.sources.specs.Accuracy.{Drawing, Stands, AccurateOver, AccurateFor}
+use Rattle.flattening.specs.Bites.{ChordsBite}
 
 -- the held points themselves, as a drawing
 abbrev pub itself : List Point → Drawing
@@ -31,6 +32,8 @@ abbrev pub step : Meaning
 step = holds (record { points = height 0 ∷ (height 0 ∷ (height 0 ∷ (height 1 ∷ []))); allowance = 0; reach = 4 })
 
 pub record Bites : Type 0 where
+  -- one chord for a hill, an invented vertex, an end before the last: refuted from the chord bound alone
+  pub chords : ChordsBite
   -- a source stands for its own polygon, so no promise is about nothing
   pub stands : (width : ℕ) (h : Held) → Stands width (holds h) (itself (h .points))
   -- the answer P(0) at 1/2

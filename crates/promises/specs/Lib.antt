@@ -1,2 +1,3 @@
+pub mod Accuracy
 pub mod Bites
 pub mod Values

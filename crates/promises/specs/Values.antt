@@ -8,6 +8,7 @@ use Rattle.points.specs.Points as points
 use Rattle.polygons.specs.Constructions.{raised}
 use Rattle.sources.specs.Meaning.{Meaning, inMemory}
 use Rattle.sources.specs.Points.{pointAt}
+use Rattle.flattening.specs.Values.{FlattenValues}
 use Rattle.promises.specs.Bites.{half}
 
 -- a point of one axis
@@ -19,6 +20,8 @@ abbrev pub cubic : ℤ → ℤ → ℤ → ℤ → Meaning
 cubic a b c d = inMemory (tall a ∷ (tall b ∷ (tall c ∷ (tall d ∷ [])))) 0
 
 pub record Values : Type 0 where
+  -- heights 0, 1, 0 to the tolerances 1 and 0, and (0,0), (4,8), (8,0) to 1, flattened
+  pub flattened : FlattenValues
   -- halves round up, not away from zero
   pub up : mixed 1 2 (pos 0) (pos 1) ≡ pos 1
   pub not-away : mixed 1 2 (pos 0) (negsuc 0) ≡ pos 0

@@ -80,7 +80,7 @@ pub accurate-bottom : (width : ℕ) (bottom : Meaning) (q : Held) (ws : List Wor
 accurate-bottom width (fails f) q ws t some ok e = over-fault ws f q e
 accurate-bottom width (holds h) q ws t some ok e = accurate-held width h q ws t some ok e
 
-accurate-answer : (width : ℕ) (m : Meaning) (t : Parameter) (n : ℕ) → Sound m → AccurateOver width m t (pointOf t m n)
+pub accurate-answer : (width : ℕ) (m : Meaning) (t : Parameter) (n : ℕ) → Sound m → AccurateOver width m t (pointOf t m n)
 accurate-answer width (fails f) t n s bottom ws e = tt
 accurate-answer width (holds q) t n s bottom ws e =
     cond-both (offScale t) (Err (refuse OffScale 0)) (cond (ltb n (q .reach)) (Err (refuse Short (q .reach))) (Ok (pointAt t (q .points), q .allowance + (length (q .points) - 1)))) (λ v. AccurateFor width bottom ws t v)

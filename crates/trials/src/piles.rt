@@ -1,4 +1,4 @@
-use crate::table::*;
+use crate::table::starts;
 use points::fault::Fault;
 use points::fault::FaultDebug;
 use points::fault::Refusal;
@@ -20,6 +20,9 @@ use sources::source::Source;
 use sources::worked::Worked;
 use sources::worked::WorkedSource;
 use std::test::*;
+use tables::made::HeightMade;
+use tables::made::PlanarMade;
+use tables::made::fill;
 use workings::survey::Survey;
 use workings::survey::SurveyDebug;
 use workings::survey::SurveyPartialEq;

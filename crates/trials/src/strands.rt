@@ -1,5 +1,5 @@
 use crate::piles::refused_at;
-use crate::table::*;
+use crate::table::starts;
 use jobs::job::run;
 use points::fault::FaultDebug;
 use points::height::Height;
@@ -19,6 +19,10 @@ use sources::memory::InMemory;
 use sources::memory::InMemorySource;
 use std::test::*;
 use strands::strand::Strand;
+use tables::made::HeightMade;
+use tables::made::PlanarMade;
+use tables::made::SampleMade;
+use tables::made::fill;
 use workings::working::Working;
 
 const HALF: Parameter = Parameter { a: 1, k: 1 };

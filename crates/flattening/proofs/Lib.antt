@@ -1,0 +1,11 @@
+pub mod Halves
+pub mod Stacks
+pub mod Pieces
+pub mod Flats
+pub mod Puts
+pub mod Walks
+pub mod Parts
+pub mod Bound
+pub mod Flattening
+pub mod Values
+pub mod Bites

@@ -1,0 +1,4 @@
+use Rattle.flattening.proofs.walk.+walk.Given as given
+
+abbrev pub μ-walk : given.MeasureT-walk
+μ-walk g l = l .halvings

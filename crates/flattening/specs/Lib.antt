@@ -1,0 +1,9 @@
+pub mod Pieces
+pub mod Flat
+pub mod Vertices
+pub mod Stacks
+pub mod Walks
+pub mod Flattening
+pub mod Chords
+pub mod Values
+pub mod Bites

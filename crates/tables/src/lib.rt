@@ -1,0 +1,2 @@
+// Points made from tables of numbers, for the trials.
+pub mod made;
