@@ -112,7 +112,7 @@ def drawn(r):
     for _ in range(r.randint(2, 17)):
         values += [r.randint(-reach, reach) for _ in range(min(AXES[kind], 2))]
         values += [r.choice([0, 4095, r.randint(0, 65535)])] if kind == "sample" else []
-    return " ".join(map(str, [kind, r.choice([1, reach // 20 + 1, reach // 3])] + values))
+    return " ".join(map(str, [kind, r.choice([1, reach // 20 + 1, min(reach // 3, 65535)])] + values))
 
 
 def main():

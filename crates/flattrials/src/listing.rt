@@ -7,35 +7,37 @@ use tables::made::Made;
 use tables::made::fill;
 
 // The most vertices that a flattening can have.
-const MOST: usize = 4097;
+pub const MOST: usize = 4097;
 
 // The places that its working buffer needs for a polygon in memory.
-const WORKING: usize = 221;
+pub const WORKING: usize = 221;
 
 // The chords of the polygon that the values are, or the refusal.
 pub fn list_chords<K: Made>(
     rt: &LibcRuntime,
     values: &[i32],
     tolerance: u16,
-    origin: K,
+    polygon: &mut [K],
+    working: &mut [K],
+    points: &mut [K],
 ) -> Result<(), AnyError> {
-    let mut polygon = vec![in rt.alloc(); origin; 18]?;
-    let n = fill(polygon.as_mut_slice(), values);
-    let mut working = vec![in rt.alloc(); origin; WORKING]?;
-    let mut points = vec![in rt.alloc(); origin; MOST]?;
     let mut parameters = vec![in rt.alloc(); 0u16; MOST]?;
+    let n = fill(polygon, values);
+    if n > polygon.len() {
+        return Err("more points than places".into());
+    }
     let source = InMemory {
-        points: polygon.as_slice().get(0..n).unwrap_or(&[]),
+        points: &polygon[0..n],
         allowance: 0,
     };
     match flatten(
         &source,
         tolerance,
-        working.as_mut_slice(),
-        points.as_mut_slice(),
+        working,
+        points,
         parameters.as_mut_slice(),
     ) {
-        Ok(count) => list_vertices(rt, points.as_slice(), parameters.as_slice(), count),
+        Ok(count) => list_vertices(rt, points, parameters.as_slice(), count),
         Err(f) => {
             let number = f.refusal.number();
             let place = f.place;

@@ -2,6 +2,8 @@
 // A line is a kind, a tolerance, and the axis values of the points, point after point.
 mod listing;
 
+use listing::MOST;
+use listing::WORKING;
 use listing::list_chords;
 use points::height::Height;
 use points::height::HeightKind;
@@ -30,18 +32,43 @@ fn list_line(rt: &LibcRuntime, line: &str) -> Result<(), AnyError> {
     let q = u16::try_from(*tolerance)?;
     println!(rt, "{line}")?;
     match kind {
-        "height" => list_chords(rt, values, q, Height { z: 0 }),
-        "planar" => list_chords(rt, values, q, Planar { x: 0, y: 0 }),
-        _ => list_chords(
-            rt,
-            values,
-            q,
-            Sample {
+        "height" => {
+            let origin = Height { z: 0 };
+            list_chords(
+                rt,
+                values,
+                q,
+                &mut [origin; 18],
+                &mut [origin; WORKING],
+                &mut [origin; MOST],
+            )
+        }
+        "planar" => {
+            let origin = Planar { x: 0, y: 0 };
+            list_chords(
+                rt,
+                values,
+                q,
+                &mut [origin; 18],
+                &mut [origin; WORKING],
+                &mut [origin; MOST],
+            )
+        }
+        _ => {
+            let origin = Sample {
                 x: 0,
                 y: 0,
                 press: 0,
-            },
-        ),
+            };
+            list_chords(
+                rt,
+                values,
+                q,
+                &mut [origin; 18],
+                &mut [origin; WORKING],
+                &mut [origin; MOST],
+            )
+        }
     }
 }
 
