@@ -102,8 +102,9 @@ fn bow_opens() -> Result<(), Fail> {
 
 #[test]
 fn cut_files_are_refused() -> Result<(), Fail> {
+    let bow: &[u8] = BOW;
     for n in 0..42usize {
-        let r: Result<Opened<Planar>, Fault> = open(&BOW[0..n]);
+        let r: Result<Opened<Planar>, Fault> = open(&bow[0..n]);
         refused(r, 6, CUT_AT[n])?;
     }
     Ok(())
