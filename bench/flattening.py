@@ -5,11 +5,8 @@ An implementation of its own of flattening, straight from docs/RULES.md, in exac
 """
 
 import random
-from pathlib import Path
 
-CRATE = Path(__file__).resolve().parent.parent / "crates" / "flattrials"
-AXES = {"height": 1, "planar": 2, "sample": 3}
-LEAST, MOST = -(2**31), 2**31 - 1
+from table import AXES, LEAST, MOST, points_of, random_values, write
 DEPTHS = 12
 
 # kind, tolerance, axis values
@@ -87,10 +84,7 @@ def pieces(points, q, depth, start):
 def worked(line):
     kind, *numbers = line.split()
     q, *values = map(int, numbers)
-    if kind == "sample":
-        values = [min(v, 4095) if i % 3 == 2 else v for i, v in enumerate(values)]
-    width = AXES[kind]
-    points = [tuple(values[i : i + width]) for i in range(0, len(values), width)]
+    points = points_of(kind, values)
     yield line
     if not 2 <= len(points) <= 17:
         yield f"refused 3 place {len(points)}"
@@ -108,18 +102,14 @@ def worked(line):
 def drawn(r):
     kind = r.choice(list(AXES))
     reach = r.choice([3, 40, 5000, 300000])
-    values = []
-    for _ in range(r.randint(2, 17)):
-        values += [r.randint(-reach, reach) for _ in range(min(AXES[kind], 2))]
-        values += [r.choice([0, 4095, r.randint(0, 65535)])] if kind == "sample" else []
+    values = random_values(r, kind, -reach, reach)
     return " ".join(map(str, [kind, r.choice([1, reach // 20 + 1, min(reach // 3, 65535)])] + values))
 
 
 def main():
     r = random.Random(2)
     lines = CASES + [drawn(r) for _ in range(120)]
-    (CRATE / "stdin").write_text("".join(line + "\n" for line in lines))
-    (CRATE / "stdout").write_text("".join(text + "\n" for line in lines for text in worked(line)))
+    write("flattrials", lines, worked)
 
 
 if __name__ == "__main__":

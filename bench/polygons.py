@@ -6,11 +6,8 @@ integers. It shares nothing with the kernel, so that the kernel is tried against
 """
 
 import random
-from pathlib import Path
 
-CRATE = Path(__file__).resolve().parent.parent / "crates" / "polygontrials"
-AXES = {"height": 1, "planar": 2, "sample": 3}
-LEAST, MOST = -(2**31), 2**31 - 1
+from table import AXES, MOST, points_of, random_values, write
 
 # textbook and extreme polygons: kind, k and a of the parameter, tolerance, axis values
 CASES = [
@@ -103,10 +100,7 @@ def said(label, call):
 def worked(line):
     kind, *numbers = line.split()
     k, a, q, *values = map(int, numbers)
-    if kind == "sample":
-        values = [min(v, 4095) if i % 3 == 2 else v for i, v in enumerate(values)]
-    width = AXES[kind]
-    points = [tuple(values[i : i + width]) for i in range(0, len(values), width)]
+    points = points_of(kind, values)
     yield line
     yield said("level", lambda: scaled(k, a, points, lambda: levels(points, k, a)[1] + points[-1:]))
     yield said("left", lambda: scaled(k, a, points, lambda: [v[0] for v in levels(points, k, a)]))
@@ -125,18 +119,14 @@ def drawn(r):
     k = r.randrange(16)
     a = r.choice([0, 2**k, r.randint(0, 2**k)])
     reach = r.choice([3, 40, 5000, MOST])
-    values = []
-    for _ in range(r.randint(2, 17)):
-        values += [max(LEAST, r.randint(-reach - 1, reach)) for _ in range(min(AXES[kind], 2))]
-        values += [r.choice([0, 4095, r.randint(0, 65535)])] if kind == "sample" else []
+    values = random_values(r, kind, -reach - 1, reach)
     return " ".join(map(str, [kind, k, a, r.choice([0, 1, reach % 65536])] + values))
 
 
 def main():
     r = random.Random(1)
     lines = CASES + [drawn(r) for _ in range(400)]
-    (CRATE / "stdin").write_text("".join(line + "\n" for line in lines))
-    (CRATE / "stdout").write_text("".join(text + "\n" for line in lines for text in worked(line)))
+    write("polygontrials", lines, worked)
 
 
 if __name__ == "__main__":
