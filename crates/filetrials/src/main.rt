@@ -3,6 +3,8 @@
 //   same KIND FILE FILE: two files are compared
 //   steps KIND PLACES ALLOWANCE NAME VALUE .. | WORKING ..: a file is written step by step onto a buffer of so many places
 // Bytes are in hexadecimal, '-' for none; a working is its letter, and after L and R k and a, as L:1:1; U*9 is nine of them.
+#![tactic(auto)]
+
 mod listing;
 mod opened;
 mod steps;

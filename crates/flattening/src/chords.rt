@@ -22,10 +22,10 @@ fn walk_source<S: Source>(
     points: &mut [S::K],
     parameters: &mut [u16],
 ) -> Result<usize, Fault>
-    requires { (2 ≤ size) × (size ≤ 17) × Drawable (means source.now) size (length buffer.old) }
-    ensures answer { result ≡ walk_of S.K.Kind.width (λ _. tolerance) (means source.now) }
-    ensures points { PutsSome S.K.Kind.coord (vertices_of S.K.Kind.width (λ _. tolerance) (means source.now)) result points.old points.new }
-    ensures parameters { PutsSome (λ t. t) (parameters_of S.K.Kind.width (λ _. tolerance) (means source.now)) result parameters.old parameters.new }
+    requires { (2 ≤ size) × (size ≤ 17) × Drawable (S.means source.now) size (length buffer.old) }
+    ensures answer { result ≡ walk_of S.K.Kind.width (λ _. tolerance) (S.means source.now) }
+    ensures points { PutsSome S.K.Kind.coord (vertices_of S.K.Kind.width (λ _. tolerance) (S.means source.now)) result points.old points.new }
+    ensures parameters { PutsSome (λ t. t) (parameters_of S.K.Kind.width (λ _. tolerance) (S.means source.now)) result parameters.old parameters.new }
 {
     source.draw(buffer)?;
     put(points, 0, buffer[0]);
@@ -48,10 +48,10 @@ fn flatten_within<S: Source>(
     points: &mut [S::K],
     parameters: &mut [u16],
 ) -> Result<usize, Fault>
-    requires { (Ok survey ≡ survey_of (means source.now)) × (max survey.reach 221 ≤ length places.old) }
-    ensures answer { result ≡ decided S.K.Kind.width (λ _. tolerance) (means source.now) (length points.old) (length parameters.old) }
-    ensures points { PutsFirst S.K.Kind.coord (vertices_of S.K.Kind.width (λ _. tolerance) (means source.now)) result points.old points.new }
-    ensures parameters { PutsFirst (λ t. t) (parameters_of S.K.Kind.width (λ _. tolerance) (means source.now)) result parameters.old parameters.new }
+    requires { (Ok survey ≡ survey_of (S.means source.now)) × (max survey.reach 221 ≤ length places.old) }
+    ensures answer { result ≡ decided S.K.Kind.width (λ _. tolerance) (S.means source.now) (length points.old) (length parameters.old) }
+    ensures points { PutsFirst S.K.Kind.coord (vertices_of S.K.Kind.width (λ _. tolerance) (S.means source.now)) result points.old points.new }
+    ensures parameters { PutsFirst (λ t. t) (parameters_of S.K.Kind.width (λ _. tolerance) (S.means source.now)) result parameters.old parameters.new }
 {
     let size = survey.degree + 1;
     let (stack, waiting) = places.split_at_mut(survey.reach.max(13 * size));
@@ -77,11 +77,11 @@ pub fn flatten<S: Source>(
     points: &mut [S::K],
     parameters: &mut [u16],
 ) -> Result<usize, Fault>
-    ensures answer { result ≡ flatten_of S.K.Kind.width (λ _. tolerance) (means source.now) (length working.old) (length points.old) (length parameters.old) }
-    ensures working { Freed (means source.now) working.old working.new }
-    ensures points { PutsFirst S.K.Kind.coord (vertices_of S.K.Kind.width (λ _. tolerance) (means source.now)) result points.old points.new }
-    ensures parameters { PutsFirst (λ t. t) (parameters_of S.K.Kind.width (λ _. tolerance) (means source.now)) result parameters.old parameters.new }
-    ensures chords { ChordBound S.K.Kind.width (λ _. tolerance) (means source.now) result (map S.K.Kind.coord points.new) parameters.new }
+    ensures answer { result ≡ flatten_of S.K.Kind.width (λ _. tolerance) (S.means source.now) (length working.old) (length points.old) (length parameters.old) }
+    ensures working { Freed (S.means source.now) working.old working.new }
+    ensures points { PutsFirst S.K.Kind.coord (vertices_of S.K.Kind.width (λ _. tolerance) (S.means source.now)) result points.old points.new }
+    ensures parameters { PutsFirst (λ t. t) (parameters_of S.K.Kind.width (λ _. tolerance) (S.means source.now)) result parameters.old parameters.new }
+    ensures chords { ChordBound S.K.Kind.width (λ _. tolerance) (S.means source.now) result (map S.K.Kind.coord points.new) parameters.new }
 {
     let survey = source.survey()?;
     let needed = survey.reach.max(221);

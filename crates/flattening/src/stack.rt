@@ -27,7 +27,7 @@ impl<'a, K: Kind> Stack<'a, K> {
     // Takes the top piece off, and answers its last point.
     pub(crate) fn pop(&mut self) -> K
         requires { Topped self.old }
-        ensures last { coord result ≡ last_of (map coord (top_of self.old)) }
+        ensures last { K.coord result ≡ last_of (map K.coord (top_of self.old)) }
         ensures popped { self.new ≡ popped self.old }
         ensures same { self.new.buffer.ghost_name ≡ self.old.buffer.ghost_name }
     {
@@ -40,7 +40,7 @@ impl<'a, K: Kind> Stack<'a, K> {
     pub(crate) fn halve(&mut self) -> Result<(), Fault>
         requires { Topped self.old × Roomy self.old }
         ensures answer { result ≡ Ok tt }
-        ensures halved { Halved coord self.old self.new }
+        ensures halved { Halved K.coord self.old self.new }
         ensures same { self.new.buffer.ghost_name ≡ self.old.buffer.ghost_name }
     {
         let half = Parameter { a: 1, k: 1 };

@@ -12,7 +12,7 @@ use polygons::flatness::{Flatness, flat_test};
 // Whether a polygon is flat to the tolerance.
 fn is_flat<K: Kind>(polygon: &[K], tolerance: u16) -> Result<bool, Fault>
     requires { (2 ≤ length polygon.now) × (length polygon.now ≤ 17) }
-    ensures { result ≡ Ok (flat? width (λ _. tolerance) (map coord polygon.now)) }
+    ensures { result ≡ Ok (flat? K.width (λ _. tolerance) (map K.coord polygon.now)) }
 {
     match flat_test(polygon, tolerance)? {
         Flatness::Flat => Ok(true),

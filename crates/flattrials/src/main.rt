@@ -1,5 +1,7 @@
 // Flattens each polygon of a table on standard input, and prints the vertices with their parameters times 4,096.
 // A line is a kind, a tolerance, and the axis values of the points, point after point.
+#![tactic(auto)]
+
 mod listing;
 
 use anyhow::anyhow;

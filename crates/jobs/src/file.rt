@@ -11,7 +11,7 @@ use workings::working::Working;
 // Works an opened file: loads its points, applies its workings in order and stops at the first that is refused. A point of the strand that comes back is
 // true to every drawing that the file stands for, at the parameter carried back through the workings done.
 pub fn run_file<K: Filed>(file: &Opened<K>, buffer: &mut [K]) -> Result<Job, Fault>
-    ensures { FileAnswers K.Kind.coord K.Kind.width (says kind file.now) buffer.old buffer.new result }
+    ensures { FileAnswers K.Kind.coord K.Kind.width (says K.kind file.now) buffer.old buffer.new result }
 {
     file.check()?;
     let mut list = [Working::Turn; 256];

@@ -15,7 +15,7 @@ pub struct Job {
 
 // Loads a source and applies the workings in order; it stops at the first that is refused. A load that is refused leaves the buffer as found.
 pub fn run<S: Source>(source: &S, workings: &[Working], buffer: &mut [S::K]) -> Result<Job, Fault>
-    ensures { Answers S.K.Kind.coord S.K.Kind.width (means source.now) workings.now buffer.old buffer.new result }
+    ensures { Answers S.K.Kind.coord S.K.Kind.width (S.means source.now) workings.now buffer.old buffer.new result }
 {
     let mut strand = Strand::load(source, buffer)?;
     let mut done = 0;

@@ -1,4 +1,6 @@
 // The kernel for programs in C and Rust: planar points, as numbers, records and slices. Any input is allowed.
+#![tactic(auto)]
+
 pub mod answer;
 pub mod chords;
 pub mod evaluation;

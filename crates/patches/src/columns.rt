@@ -11,7 +11,7 @@ use polygons::subdivision::right;
 // Copies column j, the points (0, j) to (m, j).
 fn copy_column<K: Kind>(points: &[K], m: usize, n: usize, j: usize, room: &mut [K])
     requires { Gridded m n (length points.now) × (j ≤ n) × (length room.old ≡ m + 1) }
-    ensures { map coord room.new ≡ column origin m n (map coord points.now) j }
+    ensures { map K.coord room.new ≡ column origin m n (map K.coord points.now) j }
 {
     for i in 0..m + 1 {
         room[i] = points[i * (n + 1) + j];
@@ -21,7 +21,7 @@ fn copy_column<K: Kind>(points: &[K], m: usize, n: usize, j: usize, room: &mut [
 // Makes the point at s of column j, which then stands first in the room of m + 1 places.
 fn column_point<K: Kind>(points: &[K], m: usize, n: usize, j: usize, s: Parameter, room: &mut [K])
     requires { Gridded m n (length points.now) × (j ≤ n) × (length room.old ≡ m + 1) × (off_scale s ≡ false) }
-    ensures { slice_index_or (map coord room.new) 0 origin ≡ point_at s (column origin m n (map coord points.now) j) }
+    ensures { slice_index_or (map K.coord room.new) 0 origin ≡ point_at s (column origin m n (map K.coord points.now) j) }
 {
     copy_column(points, m, n, j, room);
     // A column is a polygon, so its right part at s, which starts with the point at s, is never refused.

@@ -96,8 +96,8 @@ impl<'a, K: Kind> Source for Cut<'a, K> {
 impl<'a, K: Kind> Patch<'a, K> {
     // The cut at s, a source. It stands, among others, for the isoparametric curve at s of every patch drawing within half of the patch's allowance of its points.
     pub fn cut(&self, s: Parameter) -> Cut<'a, K>
-        ensures cut { (net_of coord result.patch ≡ net_of coord self.now) × (result.at ≡ s) }
-        ensures stands { CutStands width (net_of coord self.now) s }
+        ensures cut { (net_of K.coord result.patch ≡ net_of K.coord self.now) × (result.at ≡ s) }
+        ensures stands { CutStands K.width (net_of K.coord self.now) s }
     {
         Cut {
             patch: Patch {

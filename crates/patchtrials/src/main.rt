@@ -1,5 +1,7 @@
 // Cuts each patch of a table on standard input and prints what the cut tells and draws, what a pile over it draws, a point of it and its chords.
 // A line is a kind, m, n, the allowance, a and k of s, a and k of t, the tolerance, the places of the buffer, and the axis values of the points, point after point.
+#![tactic(auto)]
+
 mod listing;
 mod tried;
 

@@ -38,7 +38,7 @@ impl<'a, K: Copy> Clone for Opened<'a, K> {
 impl<'a, K: Filed> Opened<'a, K> {
     // Reads the points and the workings again: Ok for a file that was opened, and the fault of reading for any other value.
     pub fn check(&self) -> Result<(), Fault>
-        ensures { MatchResult result (λ _. Said kind self.now) (λ e. says kind self.now ≡ bad e) }
+        ensures { MatchResult result (λ _. Said K.kind self.now) (λ e. says K.kind self.now ≡ bad e) }
     {
         self.points.skip::<K>()?;
         self.workings.skip::<Working>()?;
@@ -48,7 +48,7 @@ impl<'a, K: Filed> Opened<'a, K> {
     // The name, 0 to 64 bytes of any value, as a part of the file.
     pub fn name(&self) -> &'a [u8]
         ensures answer { result.now ≡ self.now.name.now }
-        ensures said { Says kind self.now (λ f. result.now ≡ f.name) }
+        ensures said { Says K.kind self.now (λ f. result.now ≡ f.name) }
     {
         self.name
     }
@@ -56,7 +56,7 @@ impl<'a, K: Filed> Opened<'a, K> {
     // The allowance of the points.
     pub fn allowance(&self) -> u16
         ensures answer { result ≡ self.now.allowance }
-        ensures said { Says kind self.now (λ f. result ≡ f.allowance) }
+        ensures said { Says K.kind self.now (λ f. result ≡ f.allowance) }
     {
         self.allowance
     }
@@ -64,7 +64,7 @@ impl<'a, K: Filed> Opened<'a, K> {
     // How many points there are, 2 to 17.
     pub fn point_count(&self) -> u16
         ensures answer { result ≡ self.now.points.count }
-        ensures said { Says kind self.now (λ f. result ≡ length f.points) }
+        ensures said { Says K.kind self.now (λ f. result ≡ length f.points) }
     {
         self.points.count
     }
@@ -72,15 +72,15 @@ impl<'a, K: Filed> Opened<'a, K> {
     // How many workings there are, 0 to 256.
     pub fn working_count(&self) -> u16
         ensures answer { result ≡ self.now.workings.count }
-        ensures said { Says kind self.now (λ f. result ≡ length f.workings) }
+        ensures said { Says K.kind self.now (λ f. result ≡ length f.workings) }
     {
         self.workings.count
     }
 
     // The point at an index, if there is one.
     pub fn point(&self, i: u16) -> Option<K>
-        ensures answer { option_map (λ p. listed K.Kind.width (K.Kind.coord p)) result ≡ item_at (point_at kind) self.now.points i }
-        ensures said { Says kind self.now (λ f. option_map (λ p. listed K.Kind.width (K.Kind.coord p)) result ≡ slice_get f.points i) }
+        ensures answer { option_map (λ p. listed K.Kind.width (K.Kind.coord p)) result ≡ item_at (point_at K.kind) self.now.points i }
+        ensures said { Says K.kind self.now (λ f. option_map (λ p. listed K.Kind.width (K.Kind.coord p)) result ≡ slice_get f.points i) }
     {
         self.points.item(i)
     }
@@ -88,15 +88,15 @@ impl<'a, K: Filed> Opened<'a, K> {
     // The working at an index, if there is one.
     pub fn working(&self, i: u16) -> Option<Working>
         ensures answer { result ≡ item_at working_at self.now.workings i }
-        ensures said { Says kind self.now (λ f. result ≡ slice_get f.workings i) }
+        ensures said { Says K.kind self.now (λ f. result ≡ slice_get f.workings i) }
     {
         self.workings.item(i)
     }
 
     // Puts the points first on a buffer and answers how many they are; a buffer that is shorter is refused with 2.
     pub fn points(&self, buffer: &mut [K]) -> Result<usize, Fault>
-        ensures answer { result ≡ placing (points_of kind self.now) self.now.points.count (length buffer.old) }
-        ensures buffer { Placed (λ p. listed K.Kind.width (K.Kind.coord p)) (values (points_of kind self.now))
+        ensures answer { result ≡ placing (points_of K.kind self.now) self.now.points.count (length buffer.old) }
+        ensures buffer { Placed (λ p. listed K.Kind.width (K.Kind.coord p)) (values (points_of K.kind self.now))
             buffer.old buffer.new result }
     {
         self.points.read_onto(buffer)

@@ -49,7 +49,7 @@ fn read_name(total: usize, file: &[u8]) -> Result<(&[u8], &[u8]), Fault>
 
 // The four sections, and nothing after them.
 fn read_sections<'a, K: Filed + 'a>(total: usize, file: &'a [u8]) -> Result<Opened<'a, K>, Fault>
-    ensures { OpensBy (sections kind total file.now) kind result }
+    ensures { OpensBy (sections K.kind total file.now) K.kind result }
 {
     let (allowance, rest) = read_head(K::filed_as(), total, file)?;
     let (name, rest) = read_name(total, rest)?;
@@ -69,8 +69,8 @@ fn read_sections<'a, K: Filed + 'a>(total: usize, file: &'a [u8]) -> Result<Open
 
 // Opens a file as the kind K. A file over 65,535 bytes is refused with 12; then the first field that fails tells the fault, and its place.
 pub fn open<'a, K: Filed + 'a>(file: &'a [u8]) -> Result<Opened<'a, K>, Fault>
-    ensures answer { OpensBy (decode kind file.now) kind result }
-    ensures exactly { MatchResult result (Holds kind file.now) (λ _. NoFile kind file.now) }
+    ensures answer { OpensBy (decode K.kind file.now) K.kind result }
+    ensures exactly { MatchResult result (Holds K.kind file.now) (λ _. NoFile K.kind file.now) }
 {
     let total = file.len();
     if total > LONGEST_FILE {

@@ -1,5 +1,7 @@
 // Reads a planar path file from standard input, flattens its points to a tolerance given as the argument, in 1/256 mm, and prints the vertices:
 // the parameter times 4,096, and x and y in mm as the stylus gets them.
+#![tactic(auto)]
+
 use anyhow::anyhow;
 use flattening::chords::flatten;
 use pathfiles::opened::Opened;

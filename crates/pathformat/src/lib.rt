@@ -1,4 +1,6 @@
 // The format of path files: what bytes say, which bytes say it, and that the two agree.
+#![tactic(auto)]
+
 ghost use Rattle.pathformat.specs.File.{RoundTrip};
 
 pub mod kind;

@@ -1,4 +1,6 @@
 // Reads a planar path file from standard input, applies its workings, and prints what came of it.
+#![tactic(auto)]
+
 mod listing;
 
 use anyhow::anyhow;

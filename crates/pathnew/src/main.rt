@@ -1,4 +1,6 @@
 // Writes a path file to standard output from a plain text description on standard input.
+#![tactic(auto)]
+
 mod described;
 mod description;
 mod trouble;

@@ -1,4 +1,6 @@
 // Reads the parts of path files: fields, points, workings and counted sections.
+#![tactic(auto)]
+
 pub mod fields;
 pub mod filed;
 pub mod item;

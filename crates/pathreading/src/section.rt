@@ -26,7 +26,7 @@ impl<'a> Section<'a> {
         total: usize,
         file: &'a [u8],
     ) -> Result<(Section<'a>, &'a [u8]), Fault>
-        ensures { Starts reads (counted (within least most) refusal reads total file.now) total file.now result }
+        ensures { Starts I.reads (counted (within least most) refusal I.reads total file.now) total file.now result }
     {
         let (count, items) = two_bytes(total, file)?;
         if count < least || count > most {
@@ -43,7 +43,7 @@ impl<'a> Section<'a> {
 
     // The bytes after the items.
     pub fn skip<I: Item>(self) -> Result<&'a [u8], Fault>
-        ensures { Skips (items_of reads self.entry) result }
+        ensures { Skips (items_of I.reads self.entry) result }
     {
         let mut rest = self.items;
         for _ in 0..self.count {
@@ -55,7 +55,7 @@ impl<'a> Section<'a> {
 
     // The item at an index, if there is one.
     pub fn item<I: Item>(self, i: u16) -> Option<I>
-        ensures { option_map value result ≡ item_at reads self.entry i }
+        ensures { option_map I.value result ≡ item_at I.reads self.entry i }
     {
         if i >= self.count {
             return None;
@@ -76,8 +76,8 @@ impl<'a> Section<'a> {
 
     // Puts the items first on a buffer. They are passed over before that, so that a refused call writes nothing.
     pub fn read_onto<I: Item>(self, buffer: &mut [I]) -> Result<usize, Fault>
-        ensures answer { result ≡ placing (items_of reads self.entry) self.entry.count (length buffer.old) }
-        ensures buffer { Placed value (values (items_of reads self.entry)) buffer.old buffer.new result }
+        ensures answer { result ≡ placing (items_of I.reads self.entry) self.entry.count (length buffer.old) }
+        ensures buffer { Placed I.value (values (items_of I.reads self.entry)) buffer.old buffer.new result }
     {
         let n = usize::from(self.count);
         if buffer.len() < n {

@@ -21,9 +21,9 @@ pub(crate) fn items_size<I: Encode>(items: &[I]) -> usize
 
 // The items one after another, at a place of a buffer that has room for them.
 fn put_items<I: Encode>(buffer: &mut [u8], at: usize, items: &[I])
-    requires { at + length (flat_map bytes items.now) ≤ length buffer.old }
-    ensures written { buffer.new ≡ put at (flat_map bytes items.now) buffer.old }
-    ensures sound { Each sound items.now }
+    requires { at + length (flat_map I.bytes items.now) ≤ length buffer.old }
+    ensures written { buffer.new ≡ put at (flat_map I.bytes items.now) buffer.old }
+    ensures sound { Each I.sound items.now }
 {
     let mut to = at;
     for item in items {

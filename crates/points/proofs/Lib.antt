@@ -1,2 +1,3 @@
 pub mod Rounding
 pub mod Mixes
+pub mod Equal

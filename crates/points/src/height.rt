@@ -1,5 +1,5 @@
 ghost use Rattle.std.specs.Prelude.{◌≡◌};
-ghost use Rattle.points.specs.Points.{mixed, height, Same};
+ghost use Rattle.points.specs.Points.{mixed, height, height_eq, Same};
 ghost use Rattle.std.proofs.Common.{rules};
 ghost use Rattle.std.specs.Cmp.Rules.{comparing};
 
@@ -44,11 +44,14 @@ impl Kind for Height {
 }
 
 impl PartialEq for Height {
-    ghost equals = { λ p q r. Same (height p) (height q) r };
+    ghost eq = { height_eq };
 
     ghost laws = { Prim.search (comparing, rules) };
 
-    fn eq(&self, other: &Height) -> bool {
+    fn eq(&self, other: &Height) -> bool
+        ensures eq { result ≡ height_eq self.now other.now }
+        ensures same { Same (height self.now) (height other.now) result }
+    {
         same(self, other)
     }
 }

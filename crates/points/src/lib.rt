@@ -1,4 +1,6 @@
 // Points of every kind, how they mix, and how a call refuses.
+#![tactic(auto)]
+
 pub mod fault;
 pub mod height;
 pub mod kind;

@@ -1,5 +1,5 @@
 ghost use Rattle.std.specs.Prelude.{◌≡◌};
-ghost use Rattle.points.specs.Points.{mixed, planar, Same};
+ghost use Rattle.points.specs.Points.{mixed, planar, planar_eq, Same};
 ghost use Rattle.std.proofs.Common.{rules};
 ghost use Rattle.std.specs.Cmp.Rules.{comparing};
 
@@ -51,11 +51,14 @@ impl Kind for Planar {
 }
 
 impl PartialEq for Planar {
-    ghost equals = { λ p q r. Same (planar p) (planar q) r };
+    ghost eq = { planar_eq };
 
     ghost laws = { Prim.search (comparing, rules) };
 
-    fn eq(&self, other: &Planar) -> bool {
+    fn eq(&self, other: &Planar) -> bool
+        ensures eq { result ≡ planar_eq self.now other.now }
+        ensures same { Same (planar self.now) (planar other.now) result }
+    {
         same(self, other)
     }
 }

@@ -1,6 +1,6 @@
 ghost use Rattle.std.specs.Prelude.{◌≡◌, ◌<◌, ◌≤◌, min, MatchResult};
 ghost use Rattle.points.specs.Refusals.{refuse};
-ghost use Rattle.points.specs.Points.{sample, Same};
+ghost use Rattle.points.specs.Points.{sample, sample_eq, Same};
 ghost use Rattle.points.specs.declared.fault.Refusal.TheVariants.{Press};
 ghost use Rattle.std.proofs.Common.{rules};
 ghost use Rattle.std.specs.Cmp.Rules.{comparing};
@@ -71,11 +71,14 @@ impl Kind for Sample {
 }
 
 impl PartialEq for Sample {
-    ghost equals = { λ p q r. Same (sample p) (sample q) r };
+    ghost eq = { sample_eq };
 
     ghost laws = { Prim.search (comparing, rules) };
 
-    fn eq(&self, other: &Sample) -> bool {
+    fn eq(&self, other: &Sample) -> bool
+        ensures eq { result ≡ sample_eq self.now other.now }
+        ensures same { Same (sample self.now) (sample other.now) result }
+    {
         same(self, other)
     }
 }

@@ -10,7 +10,7 @@ use points::weight::Weight;
 // Point i of the raised polygon of degree d: P(i) and P(i − 1) mixed by i/d.
 fn raised_point<K: Kind>(here: K, before: K, i: usize, d: usize) -> K
     requires { (i ≤ d) × (1 ≤ d) × (d ≤ 17) }
-    ensures { coord result ≡ mix_point i d (coord here) (coord before) }
+    ensures { K.coord result ≡ mix_point i d (K.coord here) (K.coord before) }
 {
     let w = Weight {
         num: i as u16,
@@ -22,7 +22,7 @@ fn raised_point<K: Kind>(here: K, before: K, i: usize, d: usize) -> K
 // One degree more, from the top down. The last place is free, the ones before it hold the polygon.
 fn raise_all<K: Kind>(p: &mut [K])
     requires { (2 ≤ length p.old) × (length p.old ≤ 17) }
-    ensures { map coord p.new ≡ raised (map coord (take (length p.old - 1) p.old)) }
+    ensures { map K.coord p.new ≡ raised (map K.coord (take (length p.old - 1) p.old)) }
 {
     let d = p.len() - 1;
     p[d] = p[d - 1];
@@ -34,7 +34,7 @@ fn raise_all<K: Kind>(p: &mut [K])
 // Raises the polygon of so many points that stands first on the buffer by one degree.
 pub fn raise<K: Kind>(buffer: &mut [K], points: usize) -> Result<(), Fault>
     ensures answer { result ≡ raisable points (length buffer.old) }
-    ensures raised { Puts coord (raised (map coord (take points buffer.old))) result buffer.old buffer.new }
+    ensures raised { Puts K.coord (raised (map K.coord (take points buffer.old))) result buffer.old buffer.new }
 {
     if points < 2 || points > 16 {
         return Err(Fault::new(Refusal::Degree, points));

@@ -31,7 +31,7 @@ fn is_off(n: usize, i: usize, q: u16, first: i32, here: i32, last: i32) -> bool
 
 fn first_off<K: Kind>(p: &[K], q: u16) -> Flatness
     requires { (2 ≤ length p.now) × (length p.now ≤ 17) }
-    ensures { FirstOff (map coord p.now) (λ _. q) result }
+    ensures { FirstOff (map K.coord p.now) (λ _. q) result }
 {
     let n = p.len() - 1;
     let mut answer = Flatness::Flat;
@@ -49,7 +49,7 @@ fn first_off<K: Kind>(p: &[K], q: u16) -> Flatness
 
 // Whether the polygon is flat to a tolerance: no typeof.n.P(i) differs from (n − i)·P(0) + typeof.i.P(n) by more than n times the tolerance, on any axis.
 pub fn flat_test<K: Kind>(polygon: &[K], tolerance: u16) -> Result<Flatness, Fault>
-    ensures { Tested (map coord polygon.now) (length polygon.now) (λ _. tolerance) result }
+    ensures { Tested (map K.coord polygon.now) (length polygon.now) (λ _. tolerance) result }
 {
     test_size(polygon.len())?;
     Ok(first_off(polygon, tolerance))

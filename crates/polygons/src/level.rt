@@ -32,7 +32,7 @@ pub(crate) fn mix_level<K: Kind>(p: &mut [K], n: usize, w: Weight)
 // Puts the level above the polygon first: its n points, each two neighbours mixed. The last place stays.
 pub fn level<K: Kind>(polygon: &mut [K], t: Parameter) -> Result<(), Fault>
     ensures answer { result ≡ scaled t (sized (length polygon.old)) }
-    ensures level { Puts coord (level_above t (map coord polygon.old)) result polygon.old polygon.new }
+    ensures level { Puts K.coord (level_above t (map K.coord polygon.old)) result polygon.old polygon.new }
 {
     let n = polygon.len();
     let w = test_call(t, n)?;

@@ -9,7 +9,7 @@ use points::kind::Kind;
 // The points in the other order.
 pub fn turn<K: Kind>(polygon: &mut [K]) -> Result<(), Fault>
     ensures answer { result ≡ sized (length polygon.old) }
-    ensures turned { Puts coord (turned (map coord polygon.old)) result polygon.old polygon.new }
+    ensures turned { Puts K.coord (turned (map K.coord polygon.old)) result polygon.old polygon.new }
 {
     test_size(polygon.len())?;
     polygon.reverse();

@@ -12,7 +12,7 @@ use points::weight::Weight;
 
 // The last points of all levels, the last level first: each pass leaves one more of them.
 fn right_part<K: Kind>(p: &mut [K], w: Weight)
-    ensures { map coord p.new ≡ exact.right (mix_point w.num w.den) (map coord p.old) }
+    ensures { map K.coord p.new ≡ exact.right (mix_point w.num w.den) (map K.coord p.old) }
 {
     let len = p.len();
     for r in 1..len {
@@ -23,7 +23,7 @@ fn right_part<K: Kind>(p: &mut [K], w: Weight)
 // The right part at t: the last points of levels n down to 0.
 pub fn right<K: Kind>(polygon: &mut [K], t: Parameter) -> Result<(), Fault>
     ensures answer { result ≡ scaled t (sized (length polygon.old)) }
-    ensures right { Puts coord (right_part_at t (map coord polygon.old)) result polygon.old polygon.new }
+    ensures right { Puts K.coord (right_part_at t (map K.coord polygon.old)) result polygon.old polygon.new }
 {
     let w = test_call(t, polygon.len())?;
     right_part(polygon, w);
@@ -34,7 +34,7 @@ pub fn right<K: Kind>(polygon: &mut [K], t: Parameter) -> Result<(), Fault>
 // Mixing p and q by w/d is mixing q and p by (d − w)/d, so it is the right part from the other end.
 pub fn left<K: Kind>(polygon: &mut [K], t: Parameter) -> Result<(), Fault>
     ensures answer { result ≡ scaled t (sized (length polygon.old)) }
-    ensures left { Puts coord (left_part_at t (map coord polygon.old)) result polygon.old polygon.new }
+    ensures left { Puts K.coord (left_part_at t (map K.coord polygon.old)) result polygon.old polygon.new }
 {
     let w = test_call(t, polygon.len())?;
     polygon.reverse();
@@ -46,7 +46,7 @@ pub fn left<K: Kind>(polygon: &mut [K], t: Parameter) -> Result<(), Fault>
 // Both parts out of one triangle of mixes: the right part in place, and the first points of all levels, the left part, after it.
 fn both_parts<K: Kind>(two: &mut [K], points: usize, w: Weight)
     requires { (1 ≤ points) × (length two.old ≡ points + points) }
-    ensures { map coord two.new ≡ exact.right (mix_point w.num w.den) (map coord (take points two.old)) ++ exact.left (mix_point w.num w.den) (map coord (take points two.old)) }
+    ensures { map K.coord two.new ≡ exact.right (mix_point w.num w.den) (map K.coord (take points two.old)) ++ exact.left (mix_point w.num w.den) (map K.coord (take points two.old)) }
 {
     two[points] = two[0];
     for r in 1..points {
@@ -58,7 +58,7 @@ fn both_parts<K: Kind>(two: &mut [K], points: usize, w: Weight)
 // Both parts at t of the polygon of so many points that stands first on the buffer: the right part in its place, the left part after it.
 pub fn split<K: Kind>(buffer: &mut [K], points: usize, t: Parameter) -> Result<(), Fault>
     ensures answer { result ≡ scaled t (splittable points (length buffer.old)) }
-    ensures split { Puts coord (both_parts_at t (map coord (take points buffer.old))) result buffer.old buffer.new }
+    ensures split { Puts K.coord (both_parts_at t (map K.coord (take points buffer.old))) result buffer.old buffer.new }
 {
     let w = test_call(t, points)?;
     if buffer.len() < points + points {

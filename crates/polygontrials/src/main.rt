@@ -1,5 +1,7 @@
 // Works each polygon of a table on standard input by every construction in place, and prints what they give.
 // A line is a kind, k and a of a parameter, a tolerance, and the axis values of the points, point after point.
+#![tactic(auto)]
+
 mod listing;
 
 use anyhow::anyhow;

@@ -1,4 +1,6 @@
 // Theorems about the promises themselves: that they are not empty, what they refuse, and worked values of the definitions that the contracts use.
+#![tactic(auto)]
+
 pub mod example;
 
 ghost use Rattle.promises.specs.Accuracy.{Accuracy};
@@ -9,7 +11,7 @@ use points::kind::Kind;
 
 // The accuracy of the kernel, whole, for every kind of point: a point of any pile, every chord of an accepted flattening, and every list of calls of a strand.
 pub fn accuracy<K: Kind>() -> u8
-    ensures { Accuracy coord width }
+    ensures { Accuracy K.coord K.width }
 {
     0
 }

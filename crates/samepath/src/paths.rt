@@ -7,7 +7,7 @@ use pathreading::filed::Filed;
 use points::kind::{Kind, same};
 
 fn same_points<K: Filed>(a: &Opened<K>, b: &Opened<K>) -> bool
-    ensures { SayBoth kind a.now b.now (λ f g. Decides result (Pairwise (λ x y. x ≡ y) f.points g.points)) }
+    ensures { SayBoth K.kind a.now b.now (λ f g. Decides result (Pairwise (λ x y. x ≡ y) f.points g.points)) }
 {
     let n = a.point_count();
     if b.point_count() != n {
@@ -28,7 +28,7 @@ fn same_points<K: Filed>(a: &Opened<K>, b: &Opened<K>) -> bool
 }
 
 fn same_workings<K: Filed>(a: &Opened<K>, b: &Opened<K>) -> bool
-    ensures { SayBoth kind a.now b.now (λ f g. Decides result (Pairwise SameWorking f.workings g.workings)) }
+    ensures { SayBoth K.kind a.now b.now (λ f g. Decides result (Pairwise SameWorking f.workings g.workings)) }
 {
     let n = a.working_count();
     if b.working_count() != n {
@@ -50,7 +50,7 @@ fn same_workings<K: Filed>(a: &Opened<K>, b: &Opened<K>) -> bool
 
 // Whether two files, opened as one kind, are the same path: points and workings agree, parameters compared as numbers, whatever their names and allowances.
 pub fn same_path<K: Filed>(a: &Opened<K>, b: &Opened<K>) -> bool
-    ensures decides { Decides result (SameSaid kind a.now b.now) }
+    ensures decides { Decides result (SameSaid K.kind a.now b.now) }
     ensures equivalence { Equivalence SamePath }
 {
     let Ok(()) = a.check() else {

@@ -11,9 +11,9 @@ use polygons::subdivision::right;
 
 // The point at t together with its allowance: on every axis it is off the exact curve by at most half of that. The buffer then starts with the right part at t.
 pub fn point<S: Source>(source: &S, t: Parameter, buffer: &mut [S::K]) -> Result<(S::K, u32), Fault>
-    ensures answer { seen S.K.Kind.coord result ≡ point_of t (means source.now) (length buffer.old) }
-    ensures laid { Laid S.K.Kind.coord (pointed t (means source.now)) buffer.old buffer.new }
-    ensures accurate { AccurateOver S.K.Kind.width (means source.now) t (seen S.K.Kind.coord result) }
+    ensures answer { seen S.K.Kind.coord result ≡ point_of t (S.means source.now) (length buffer.old) }
+    ensures laid { Laid S.K.Kind.coord (pointed t (S.means source.now)) buffer.old buffer.new }
+    ensures accurate { AccurateOver S.K.Kind.width (S.means source.now) t (seen S.K.Kind.coord result) }
 {
     let s = source.survey()?;
     t.weight()?;
@@ -29,8 +29,8 @@ pub fn coordinate<S: Source>(
     axis: usize,
     buffer: &mut [S::K],
 ) -> Result<(i32, u32), Fault>
-    ensures answer { result ≡ on_axis axis (point_of t (means source.now) (length buffer.old)) }
-    ensures laid { Laid S.K.Kind.coord (pointed t (means source.now)) buffer.old buffer.new }
+    ensures answer { result ≡ on_axis axis (point_of t (S.means source.now) (length buffer.old)) }
+    ensures laid { Laid S.K.Kind.coord (pointed t (S.means source.now)) buffer.old buffer.new }
 {
     let (p, allowance) = point(source, t, buffer)?;
     Ok((p.axis(axis), allowance))

@@ -12,8 +12,8 @@ use workings::working::Working;
 
 // The source below draws; its fault climbs.
 fn draw_below<S: Source>(below: &S, buffer: &mut [S::K]) -> Result<Survey, Fault>
-    ensures answer { result ≡ climbing (draw_of (means below.now) (length buffer.old)) }
-    ensures laid { Laid S.K.Kind.coord (means below.now) buffer.old buffer.new }
+    ensures answer { result ≡ climbing (draw_of (S.means below.now) (length buffer.old)) }
+    ensures laid { Laid S.K.Kind.coord (S.means below.now) buffer.old buffer.new }
 {
     climb(below.draw(buffer))
 }

@@ -19,9 +19,9 @@ impl Strand {
         buffer: &[K],
         second: &mut [K],
     ) -> Result<(K, u32), Fault>
-        ensures answer { seen coord result ≡ strand_point coord t (state self.now buffer.now) (length second.old) }
-        ensures second { Puts coord (right_part_at t (polygon coord (state self.now buffer.now))) (outcome result) second.old second.new }
-        ensures accurate { AccurateAfter coord width (state self.now buffer.now) t (seen coord result) }
+        ensures answer { seen K.coord result ≡ strand_point K.coord t (state self.now buffer.now) (length second.old) }
+        ensures second { Puts K.coord (right_part_at t (polygon K.coord (state self.now buffer.now))) (outcome result) second.old second.new }
+        ensures accurate { AccurateAfter K.coord K.width (state self.now buffer.now) t (seen K.coord result) }
     {
         t.weight()?;
         let n = self.degree + 1;

@@ -1,4 +1,6 @@
 // Strokes for the stylus, made from planar vertices.
+#![tactic(auto)]
+
 ghost use Rattle.std.specs.Prelude.{◌≡◌, ◌<◌, length};
 ghost use Rattle.strokes.specs.Strokes.{InMillimetres, StrokeTo, strokes_of, Stroked};
 

@@ -22,10 +22,10 @@ pub fn isoparametric_point<K: Kind>(
     t: Parameter,
     buffer: &mut [K],
 ) -> Result<(K, u32), Fault>
-    ensures answer { seen coord result ≡ point_of t (cut_of s (net_of coord patch.now)) (length buffer.old) }
-    ensures laid { Laid coord (pointed t (cut_of s (net_of coord patch.now))) buffer.old buffer.new }
-    ensures accurate { AccurateOver width (cut_of s (net_of coord patch.now)) t (seen coord result) }
-    ensures surface { OnSurface width (net_of coord patch.now) s t (seen coord result) }
+    ensures answer { seen K.coord result ≡ point_of t (cut_of s (net_of K.coord patch.now)) (length buffer.old) }
+    ensures laid { Laid K.coord (pointed t (cut_of s (net_of K.coord patch.now))) buffer.old buffer.new }
+    ensures accurate { AccurateOver K.width (cut_of s (net_of K.coord patch.now)) t (seen K.coord result) }
+    ensures surface { OnSurface K.width (net_of K.coord patch.now) s t (seen K.coord result) }
 {
     point(&patch.cut(s), t, buffer)
 }
@@ -40,12 +40,12 @@ pub fn isoparametric_flatten<K: Kind>(
     points: &mut [K],
     parameters: &mut [u16],
 ) -> Result<usize, Fault>
-    ensures answer { result ≡ flatten_of width (λ _. tolerance) (cut_of s (net_of coord patch.now)) (length working.old) (length points.old) (length parameters.old) }
-    ensures working { Freed (cut_of s (net_of coord patch.now)) working.old working.new }
-    ensures points { PutsFirst coord (vertices_of width (λ _. tolerance) (cut_of s (net_of coord patch.now))) result points.old points.new }
-    ensures parameters { PutsFirst (λ t. t) (parameters_of width (λ _. tolerance) (cut_of s (net_of coord patch.now))) result parameters.old parameters.new }
-    ensures chords { ChordBound width (λ _. tolerance) (cut_of s (net_of coord patch.now)) result (map coord points.new) parameters.new }
-    ensures surface { ChordsOnSurface width (λ _. tolerance) (net_of coord patch.now) s result (map coord points.new) parameters.new }
+    ensures answer { result ≡ flatten_of K.width (λ _. tolerance) (cut_of s (net_of K.coord patch.now)) (length working.old) (length points.old) (length parameters.old) }
+    ensures working { Freed (cut_of s (net_of K.coord patch.now)) working.old working.new }
+    ensures points { PutsFirst K.coord (vertices_of K.width (λ _. tolerance) (cut_of s (net_of K.coord patch.now))) result points.old points.new }
+    ensures parameters { PutsFirst (λ t. t) (parameters_of K.width (λ _. tolerance) (cut_of s (net_of K.coord patch.now))) result parameters.old parameters.new }
+    ensures chords { ChordBound K.width (λ _. tolerance) (cut_of s (net_of K.coord patch.now)) result (map K.coord points.new) parameters.new }
+    ensures surface { ChordsOnSurface K.width (λ _. tolerance) (net_of K.coord patch.now) s result (map K.coord points.new) parameters.new }
 {
     flatten(&patch.cut(s), tolerance, working, points, parameters)
 }

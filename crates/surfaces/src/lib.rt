@@ -1,4 +1,6 @@
 // Points and chords of the isoparametric curves of patches, held against every exact surface that the patch may stand for.
+#![tactic(auto)]
+
 pub mod isoparametric;
 
 ghost use Rattle.surfaces.specs.Refutations.{SurfaceRefutations};
@@ -8,7 +10,7 @@ use points::kind::Kind;
 
 // The accuracy over patches, for every kind of point: what is promised of a point or a chord of any pile of workings over a cut is true to every surface that follows the patch.
 pub fn surface_accuracy<K: Kind>()
-    ensures { SurfaceAccuracy width }
+    ensures { SurfaceAccuracy K.width }
 {}
 
 // The statements on surfaces are not empty: a patch follows itself, and lazy answers are refuted by them alone. With the worked cut of the rules.

@@ -1,4 +1,6 @@
 // Tests of the kernel on values that an independent program computed from the rules.
+#![tactic(auto)]
+
 #[cfg(test)]
 mod mixing;
 #[cfg(test)]

@@ -13,7 +13,7 @@ impl Working {
     // Works the polygon of this degree that stands first on the buffer; it refuses 1, 3, then 2.
     pub fn apply<K: Kind>(self, buffer: &mut [K], degree: usize) -> Result<(), Fault>
         ensures answer { result ≡ roomy (tested self degree) (length buffer.old) }
-        ensures worked { Puts coord (shape self (map coord (take (degree + 1) buffer.old))) result buffer.old buffer.new }
+        ensures worked { Puts K.coord (shape self (map K.coord (take (degree + 1) buffer.old))) result buffer.old buffer.new }
     {
         let after = self.test(degree)?;
         if buffer.len() < after + 1 {

@@ -7,7 +7,7 @@ pub loop-i-preserved : goal.loop-i-preserved
 loop-i-preserved c =
     let vs = c.args.vertices.now in
     let xs = c.loop-i.buffer in
-    (begun_more vs xs c.loop-i.i _ c.stroke-to.result c.loop-i-test.true (omega arith) c.loop-i.invariant.0 c.stroke-to.ensures, drop-set-lt (length vs) xs c.loop-i.i c.stroke-to.result c.loop-i-test.true ∙ c.loop-i.invariant.1)
+    (begun_more vs xs c.loop-i.i _ c.stroke_to.result c.loop-i-test.true (omega arith) c.loop-i.invariant.0 c.stroke_to.ensures, drop-set-lt (length vs) xs c.loop-i.i c.stroke_to.result c.loop-i-test.true ∙ c.loop-i.invariant.1)
 
 pub returns : goal.returns
 returns c = record {

@@ -5,7 +5,7 @@ use Rattle.jobs.proofs.Runs.{loaded-rest, rest_from, ran, done_more, done-stop}
 use Rattle.jobs.proofs.job.run.Goals as goal
 
 pub loop-w-init : goal.loop-w-init
-loop-w-init g c = (refl, (c.in-ok-strand.ensures.begins, refl), omega arith)
+loop-w-init g c = (refl, (c.in_ok-strand.ensures.begins, refl), omega arith)
 
 pub returns-in-Err : goal.returns-in-Err
 returns-in-Err g c =
@@ -14,7 +14,7 @@ returns-in-Err g c =
     let ws = c.args.workings.now in
     let s = state c.loop-w.strand c.loop-w.buffer in
     let s' = state c.work.new.self c.work.new.buffer in
-    let start = loaded-rest co m c.args.buffer.now (state c.in-ok-strand.strand c.load.new.buffer) (sym c.in-ok-strand.ensures.answer) c.load.ensures.laid in
+    let start = loaded-rest co m c.args.buffer.now (state c.in_ok-strand.strand c.load.new.buffer) (sym c.in_ok-strand.ensures.answer) c.load.ensures.laid in
     let rest = rest_from m _ _ c.args.buffer.now c.load.new.buffer c.loop-w.buffer c.loop-w.invariant.2 start c.loop-w.invariant.1.1 in
     subst (λ n. Ran co g.K.Kind.width m ws n (Some c.in-Err.f) c.args.buffer.now s') (sym c.loop-w.invariant.0) (done-stop co m ws c.loop-w.w-index _ _ c.load.new.buffer s s' c.loop-w-test.true refl c.in-Err.f c.args.buffer.now c.in-Err.ensures.step c.loop-w.invariant.1.0 rest g.K.Kind.width)
 
@@ -24,14 +24,14 @@ loop-w-preserved g c =
     let m = g.S.Source.means c.args.source.now in
     let s = state c.loop-w.strand c.loop-w.buffer in
     let s' = state c.work.new.self c.work.new.buffer in
-    let d = done_more co m c.args.workings.now c.loop-w.w-index _ _ c.load.new.buffer s s' c.loop-w-test.true refl _ c.in-default.ensures.continues c.in-default.ensures.step c.loop-w.invariant.1 in
+    let d = done_more co m c.args.workings.now c.loop-w.w-index _ _ c.load.new.buffer s s' c.loop-w-test.true refl _ c.in_default.ensures.continues c.in_default.ensures.step c.loop-w.invariant.1 in
     (omega arith, d.0, omega (arith, d.1))
 
 pub returns : goal.returns
 returns g c =
     let co = g.K.Kind.coord in
     let m = g.S.Source.means c.args.source.now in
-    let start = loaded-rest co m c.args.buffer.now (state c.in-ok-strand.strand c.load.new.buffer) (sym c.in-ok-strand.ensures.answer) c.load.ensures.laid in
+    let start = loaded-rest co m c.args.buffer.now (state c.in_ok-strand.strand c.load.new.buffer) (sym c.in_ok-strand.ensures.answer) c.load.ensures.laid in
     let rest = rest_from m _ _ c.args.buffer.now c.load.new.buffer c.loop-w.buffer c.loop-w.invariant.2 start c.loop-w.invariant.1.1 in
     let s = state c.loop-w.strand c.loop-w.buffer in
     subst (λ n. Ran co g.K.Kind.width m c.args.workings.now n None c.args.buffer.now s) (sym c.loop-w.invariant.0) (ran co g.K.Kind.width m c.args.workings.now c.loop-w.w-index None c.args.buffer.now s c.loop-w.invariant.1.0 (omega arith) rest)

@@ -9,12 +9,12 @@ use Rattle.native.proofs.opening.planar_open.Goals as goal
 pub returns-in-Ok-points : goal.returns-in-Ok-points
 returns-in-Ok-points c =
     let opens = c.in-Ok.ensures.answer in
-    let v = filed (decode PlanarFile c.args.file.now) c.in-Ok.o opens c.args.buffer.now c.points.new.buffer c.in-Ok-points.field-0 c.in-Ok-points.ensures.answer c.in-Ok-points.ensures.buffer in
+    let v = filed (decode PlanarFile c.args.file.now) c.in-Ok.o opens c.args.buffer.now c.points.new.buffer c.in-Ok-points.field_0 c.in-Ok-points.ensures.answer c.in-Ok-points.ensures.buffer in
     let a = c.allowance.ensures.said opens.file opens.said in
     let n = ap length (c.name.ensures.said opens.file opens.said) in
-    let p = c.point-count.ensures.said opens.file opens.said in
-    let w = c.working-count.ensures.said opens.file opens.said in
-    let r : FileAnswer = record { answer = c.accepted.result; allowance = c.allowance.result; name = length c.name.result.now; points = c.point-count.result; workings = c.working-count.result } in
+    let p = c.point_count.ensures.said opens.file opens.said in
+    let w = c.working_count.ensures.said opens.file opens.said in
+    let r : FileAnswer = record { answer = c.accepted.result; allowance = c.allowance.result; name = length c.name.result.now; points = c.point_count.result; workings = c.working_count.result } in
     let same : r ≡ numbers_of opens.file = let e = c.accepted.ensures in cc in
     record { answer = same ∙ sym v.0; points = v.1 }
 

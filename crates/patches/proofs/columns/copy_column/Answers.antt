@@ -8,8 +8,8 @@ loop-i-preserved g c = copied_more g.K.Kind.coord c.args.m c.args.n c.args.j c.l
 pub returns : goal.returns
 returns g c = copied_all g.K.Kind.coord c.args.m c.args.n c.args.j c.args.points.now c.loop-i.room (omega arith) (λ k l. c.loop-i.invariant k (omega arith))
 
-pub offset-bounds-points-i : goal.offset-bounds-points-i
-offset-bounds-points-i g c = omega (arith, in-grid c.args.m c.args.n c.loop-i.i c.args.j (length c.args.points.now) c.requires.0 (omega arith) c.requires.1)
+pub offset_bounds-points-i : goal.offset_bounds-points-i
+offset_bounds-points-i g c = omega (arith, in-grid c.args.m c.args.n c.loop-i.i c.args.j (length c.args.points.now) c.requires.0 (omega arith) c.requires.1)
 
 pub bounds-points-i : goal.bounds-points-i
 bounds-points-i g c = in-grid c.args.m c.args.n c.loop-i.i c.args.j (length c.args.points.now) c.requires.0 (omega arith) c.requires.1

@@ -15,9 +15,9 @@ loop-j-preserved g c =
     let j : ℕ = c.loop-j.j in
     let k : ℕ = j + m + 1 - j in
     let xs = c.loop-j.buffer in
-    let ys = c.column-point.new.room in
-    let long : length ys ≡ k = c.column-point.auto.room ∙ length-take-le k (drop j xs) (omega (arith, length-drop j xs)) in (
-      laid_more co (λ i. point_at c.args.s (column origin m n (map co c.args.points.now) i)) j k xs ys long (omega arith) (omega arith) c.loop-j.invariant.0 c.column-point.ensures,
+    let ys = c.column_point.new.room in
+    let long : length ys ≡ k = c.column_point.auto.room ∙ length-take-le k (drop j xs) (omega (arith, length-drop j xs)) in (
+      laid_more co (λ i. point_at c.args.s (column origin m n (map co c.args.points.now) i)) j k xs ys long (omega arith) (omega arith) c.loop-j.invariant.0 c.column_point.ensures,
       drop-put_mid j k xs ys (n + 1 + m) (omega arith) (omega arith) long ∙ c.loop-j.invariant.1,
     )
 

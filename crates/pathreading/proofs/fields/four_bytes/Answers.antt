@@ -4,4 +4,4 @@ use mir.Facts as facts
 use Rattle.pathreading.proofs.fields.four_bytes.Goals as goal
 
 pub returns-in-len4-up : goal.returns-in-len4-up
-returns-in-len4-up c = at-four c.args.total c.args.file.now _ (omega (arith, ltb-false)) (facts.to_z-of_z {w = w32} (record { sfits = c.from-be-bytes.type-inv }) ∙ c.from-be-bytes.ensures)
+returns-in-len4-up c = at-four c.args.total c.args.file.now _ (omega (arith, ltb-false)) (facts.to_z-of_z {w = w32} (record { sfits = c.from_be_bytes.type_inv }) ∙ c.from_be_bytes.ensures)

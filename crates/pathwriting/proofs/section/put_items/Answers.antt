@@ -12,17 +12,17 @@ use Rattle.pathwriting.proofs.section.put_items.Goals as goal
 pub loop-item-init : goal.loop-item-init
 loop-item-init g c = (omega arith, sym (put-none c.args.at c.args.buffer.now), tt)
 
-pub slice-bounds-write-count : goal.slice-bounds-write-count
-slice-bounds-write-count g c = omega (arith, next-room g.I.Encode.bytes c.args.items.now c.loop-item.item-index c.item-item.result c.args.at c.loop-item.to _ c.loop-item-test.true c.item-item.is c.loop-item.invariant.0 c.requires)
+pub slice_bounds-write-count : goal.slice_bounds-write-count
+slice_bounds-write-count g c = omega (arith, next-room g.I.Encode.bytes c.args.items.now c.loop-item.item-index c.item-item.result c.args.at c.loop-item.to _ c.loop-item-test.true c.item-item.is c.loop-item.invariant.0 c.requires)
 
-pub slice-bounds-write-start : goal.slice-bounds-write-start
-slice-bounds-write-start g c =
+pub slice_bounds-write-start : goal.slice_bounds-write-start
+slice_bounds-write-start g c =
     let r = next-room g.I.Encode.bytes c.args.items.now c.loop-item.item-index c.item-item.result c.args.at c.loop-item.to _ c.loop-item-test.true c.item-item.is c.loop-item.invariant.0 c.requires in
     let l : c.loop-item.to ≤ length c.loop-item.buffer = omega arith in
     search rules
 
-pub overflow-add-to : goal.overflow-add-to
-overflow-add-to g c =
+pub overflow_add-to : goal.overflow_add-to
+overflow_add-to g c =
     let r = next-room g.I.Encode.bytes c.args.items.now c.loop-item.item-index c.item-item.result c.args.at c.loop-item.to _ c.loop-item-test.true c.item-item.is c.loop-item.invariant.0 c.requires in
     let l : c.loop-item.to + c.size-to.result ≤ length c.args.buffer.now = omega (arith, c.size-to.ensures.0) in
     search rules

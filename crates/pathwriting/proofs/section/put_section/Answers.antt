@@ -11,10 +11,10 @@ returns g c =
     let bytes = g.I.Encode.bytes in
     let xs = c.args.items.now in
     let at = c.args.at in
-    let size : at + 2 + c.items-size.result ≡ at + length (bytes_each bytes xs) = omega (arith, c.items-size.ensures.0) in
+    let size : at + 2 + c.items_size.result ≡ at + length (bytes_each bytes xs) = omega (arith, c.items_size.ensures.0) in
     record {
-      answer = c.in-ok-end.ensures ∙ ap (λ n. room_for n (length c.args.buffer.now)) size;
-      written = then-put at (at + 2) (bytes2 (length xs)) (flat_map bytes xs) c.args.buffer.now _ _ c.put-two.ensures c.put-items.ensures.written refl (omega (arith, room-taken _ (length c.args.buffer.now) _ c.in-ok-end.ensures));
-      sound = c.put-items.ensures.sound;
-      small = omega (arith, c.items-size.ensures.1, room-taken _ (length c.args.buffer.now) _ c.in-ok-end.ensures);
+      answer = c.in_ok-end.ensures ∙ ap (λ n. room_for n (length c.args.buffer.now)) size;
+      written = then-put at (at + 2) (bytes2 (length xs)) (flat_map bytes xs) c.args.buffer.now _ _ c.put_two.ensures c.put_items.ensures.written refl (omega (arith, room-taken _ (length c.args.buffer.now) _ c.in_ok-end.ensures));
+      sound = c.put_items.ensures.sound;
+      small = omega (arith, c.items_size.ensures.1, room-taken _ (length c.args.buffer.now) _ c.in_ok-end.ensures);
     }

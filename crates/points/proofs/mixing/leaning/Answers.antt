@@ -17,8 +17,8 @@ value n p q h fp fq =
     let eg : to_z w64 (of_z w64 (to_z w64 (of_z w64 (to_z w32 (of_z w32 q))) -ℤ to_z w64 (of_z w64 (to_z w32 (of_z w32 p))))) ≡ q -ℤ p = omega (arith, ints) in
     ap (λ u. u *ℤ to_z w64 (of_z w64 (to_z w64 (of_z w64 (to_z w32 (of_z w32 q))) -ℤ to_z w64 (of_z w64 (to_z w32 (of_z w32 p)))))) en ∙ ap (λ u. pos (2 * n) *ℤ u) eg
 
-pub overflow-mul-result-2 : goal.overflow-mul-result-2
-overflow-mul-result-2 c =
+pub overflow_mul-result-2 : goal.overflow_mul-result-2
+overflow_mul-result-2 c =
     let w = c.args.w in
     let p = c.args.p in
     let q = c.args.q in
@@ -31,5 +31,5 @@ returns c =
     let p = c.args.p in
     let q = c.args.q in
     let b = product w.num w.den p q w.weighs.2 c.ranges.p c.ranges.q in
-    let e = to_z-of_z w64 _ (overflow-mul-result-2 c) ∙ value w.num p q (omega (arith, w.weighs.1, w.weighs.2)) c.ranges.p c.ranges.q in
+    let e = to_z-of_z w64 _ (overflow_mul-result-2 c) ∙ value w.num p q (omega (arith, w.weighs.1, w.weighs.2)) c.ranges.p c.ranges.q in
     (e, subst (λ z. up z ≤ 8589934590 * w.den) (sym e) b.0, subst (λ z. down z ≤ 8589934590 * w.den) (sym e) b.1)

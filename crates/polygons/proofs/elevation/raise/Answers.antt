@@ -3,4 +3,4 @@ use Rattle.polygons.proofs.Puts.{puts-raise}
 use Rattle.polygons.proofs.elevation.raise.Goals as goal
 
 pub returns : goal.returns
-returns g c = record { answer = search rules; raised = puts-raise g.K.Kind.coord c.args.points _ c.args.buffer.now c.raise-all.new.p (omega arith) (omega arith) (omega arith) c.raise-all.auto.p c.raise-all.ensures }
+returns g c = record { answer = search rules; raised = puts-raise g.K.Kind.coord c.args.points _ c.args.buffer.now c.raise_all.new.p (omega arith) (omega arith) (omega arith) c.raise_all.auto.p c.raise_all.ensures }

@@ -16,7 +16,7 @@ loop-i-preserved g c =
     let long : length p ≡ length c.args.p.now = c.loop-i.auto.p ∙ length-set _ _ _ in
     let b = c.index-p-i in
     let a = c.index-p-i-in-loop-i in
-    (omega arith, top-more co (raising d) d _ p (i - 1) c.raised-point.result a.result b.result i (omega arith) (omega arith) (omega arith) c.loop-i.invariant.1 (read_is co p (i - 1 - 1) a.result (omega arith) a.is) (read_is co p (i - 1) b.result (omega arith) b.is) c.raised-point.ensures)
+    (omega arith, top-more co (raising d) d _ p (i - 1) c.raised_point.result a.result b.result i (omega arith) (omega arith) (omega arith) c.loop-i.invariant.1 (read_is co p (i - 1 - 1) a.result (omega arith) a.is) (read_is co p (i - 1) b.result (omega arith) b.is) c.raised_point.ensures)
 
 pub returns : goal.returns
 returns g c =

@@ -11,7 +11,7 @@ points-init g c = (refl, λ j h b. subst (λ k. off_at (map g.K.Kind.coord c.arg
 -- what the test of one point on one axis says
 pub loop-a-preserved : goal.loop-a-preserved
 loop-a-preserved g c =
-    (c.loop-a.invariant.0, below_more _ _ c.loop-a.invariant.1 (off-here g.K.Kind.coord c.args.p.now (λ _. c.args.q) c.points.i c.loop-a.a c.index-p-0.result c.index-p-i.result c.index-p-n.result _ _ _ _ (omega arith) c.index-p-0.is c.index-p-i.is c.index-p-n.is (to_z-of_z w32 _ (record { sfits = c.axis.type-inv }) ∙ c.axis.ensures) (to_z-of_z w32 _ (record { sfits = c.axis-in-loop-a.type-inv }) ∙ c.axis-in-loop-a.ensures) (to_z-of_z w32 _ (record { sfits = c.axis-in-loop-a-2.type-inv }) ∙ c.axis-in-loop-a-2.ensures) c.is-off.ensures ∙ c.if-is-off.false))
+    (c.loop-a.invariant.0, below_more _ _ c.loop-a.invariant.1 (off-here g.K.Kind.coord c.args.p.now (λ _. c.args.q) c.points.i c.loop-a.a c.index-p-0.result c.index-p-i.result c.index-p-n.result _ _ _ _ (omega arith) c.index-p-0.is c.index-p-i.is c.index-p-n.is (to_z-of_z w32 _ (record { sfits = c.axis.type_inv }) ∙ c.axis.ensures) (to_z-of_z w32 _ (record { sfits = c.axis-in-loop-a.type_inv }) ∙ c.axis-in-loop-a.ensures) (to_z-of_z w32 _ (record { sfits = c.axis-in-loop-a-2.type_inv }) ∙ c.axis-in-loop-a-2.ensures) c.is_off.ensures ∙ c.if-is_off.false))
 
 pub points-preserved : goal.points-preserved
 points-preserved g c =
@@ -20,6 +20,6 @@ points-preserved g c =
 pub returns-after-points : goal.returns-after-points
 returns-after-points g c = flat-all g.K.Kind.coord c.args.p.now (λ _. c.args.q) c.points.i _ c.points.invariant.0 c.points-test.false c.points.invariant.1
 
-pub returns-then-is-off : goal.returns-then-is-off
-returns-then-is-off g c =
-    (simp length-map (omega arith), off-here g.K.Kind.coord c.args.p.now (λ _. c.args.q) c.points.i c.loop-a.a c.index-p-0.result c.index-p-i.result c.index-p-n.result _ _ _ _ (omega arith) c.index-p-0.is c.index-p-i.is c.index-p-n.is (to_z-of_z w32 _ (record { sfits = c.axis.type-inv }) ∙ c.axis.ensures) (to_z-of_z w32 _ (record { sfits = c.axis-in-loop-a.type-inv }) ∙ c.axis-in-loop-a.ensures) (to_z-of_z w32 _ (record { sfits = c.axis-in-loop-a-2.type-inv }) ∙ c.axis-in-loop-a-2.ensures) c.is-off.ensures ∙ c.if-is-off.true, c.points.invariant.1, c.loop-a.invariant.1)
+pub returns-then-is_off : goal.returns-then-is_off
+returns-then-is_off g c =
+    (simp length-map (omega arith), off-here g.K.Kind.coord c.args.p.now (λ _. c.args.q) c.points.i c.loop-a.a c.index-p-0.result c.index-p-i.result c.index-p-n.result _ _ _ _ (omega arith) c.index-p-0.is c.index-p-i.is c.index-p-n.is (to_z-of_z w32 _ (record { sfits = c.axis.type_inv }) ∙ c.axis.ensures) (to_z-of_z w32 _ (record { sfits = c.axis-in-loop-a.type_inv }) ∙ c.axis-in-loop-a.ensures) (to_z-of_z w32 _ (record { sfits = c.axis-in-loop-a-2.type_inv }) ∙ c.axis-in-loop-a-2.ensures) c.is_off.ensures ∙ c.if-is_off.true, c.points.invariant.1, c.loop-a.invariant.1)

@@ -20,8 +20,8 @@ value n x h f =
 fits : (n : ℕ) (x : ℤ) → n ≤ 16 → SFits w32 x → SFits w64 (to_z w64 n *ℤ to_z w64 (of_z w64 (to_z w32 (of_z w32 x))))
 fits n x h f = subst (λ z. SFits w64 z) (sym (value n x h f)) (fits_in w64 (pos n *ℤ x) (omega (arith, product n x h f)))
 
-pub overflow-mul-result : goal.overflow-mul-result
-overflow-mul-result c = fits c.args.n c.args.x c.requires c.ranges.x
+pub overflow_mul-result : goal.overflow_mul-result
+overflow_mul-result c = fits c.args.n c.args.x c.requires c.ranges.x
 
 pub returns : goal.returns
 returns c =

@@ -15,9 +15,9 @@ loop-r-preserved g c =
     let x = c.index-two-0.result in
     let long = c.loop-r.auto.two in
     let set_long = length-set xs n x in
-    continued g.K.Kind.coord _ n _ c.loop-r.two c.mix-level.new.p c.index-two-0-in-loop-r.result c.loop-r.r _
-    (length-map _ g.K.Kind.coord ∙ ap length (take-set xs n x) ∙ length-take-le n xs (omega arith)) (omega (arith, c.mix-level.auto.p)) (omega arith) c.loop-r-test.true (omega arith)
-    c.loop-r.invariant c.mix-level.ensures.passes c.index-two-0-in-loop-r.is
+    continued g.K.Kind.coord _ n _ c.loop-r.two c.mix_level.new.p c.index-two-0-in-loop-r.result c.loop-r.r _
+    (length-map _ g.K.Kind.coord ∙ ap length (take-set xs n x) ∙ length-take-le n xs (omega arith)) (omega (arith, c.mix_level.auto.p)) (omega arith) c.loop-r-test.true (omega arith)
+    c.loop-r.invariant c.mix_level.ensures.passes c.index-two-0-in-loop-r.is
 
 pub returns : goal.returns
 returns g c =

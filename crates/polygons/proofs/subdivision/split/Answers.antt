@@ -4,8 +4,8 @@ use Rattle.polygons.proofs.subdivision.split.Goals as goal
 
 pub returns : goal.returns
 returns g c =
-    let t = c.in-ok-w.ensures in
+    let t = c.in_ok-w.ensures in
     record {
       answer = search rules;
-      split = puts-both g.K.Kind.coord c.args.t c.in-ok-w.w.num c.in-ok-w.w.den c.args.points _ c.args.buffer.now c.both-parts.new.two t.0 t.1 (omega arith) c.if-buffer-points.false c.both-parts.ensures;
+      split = puts-both g.K.Kind.coord c.args.t c.in_ok-w.w.num c.in_ok-w.w.den c.args.points _ c.args.buffer.now c.both_parts.new.two t.0 t.1 (omega arith) c.if-buffer-points.false c.both_parts.ensures;
     }

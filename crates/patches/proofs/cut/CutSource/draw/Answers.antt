@@ -7,21 +7,21 @@ use Rattle.patches.specs.Nets.{net_of, cut_of, Gridded}
 use Rattle.patches.proofs.Cuts.{surveyed-held, drawn}
 use Rattle.patches.proofs.cut.CutSource.draw.Goals as goal
 
-pub returns-in-err-s : goal.returns-in-err-s
-returns-in-err-s g c =
+pub returns-in_err-s : goal.returns-in_err-s
+returns-in_err-s g c =
     let m = cut_of c.args.self.now.at (net_of g.K.Kind.coord c.args.self.now.patch) in
     let p = err_from_is_err_and c.from-residual.result c.from-residual.ensures.1 in
-    let is = surveyed-err m _ (sym c.in-err-s.ensures) in
+    let is = surveyed-err m _ (sym c.in_err-s.ensures) in
     rw (p.1, p.2) (record { answer = sym (ap (λ v. draw_of v (length c.args.buffer.now)) is); laid = laid_by g.K.Kind.coord _ _ _ _ is refl })
 
-pub draw-columns-requires : goal.draw-columns-requires
-draw-columns-requires g c =
+pub draw_columns-requires : goal.draw_columns-requires
+draw_columns-requires g c =
     let p = c.args.self.now.patch in
-    let h = surveyed-held c.args.self.now.at (net_of g.K.Kind.coord p) c.in-ok-s.s c.in-ok-s.ensures in
+    let h = surveyed-held c.args.self.now.at (net_of g.K.Kind.coord p) c.in_ok-s.s c.in_ok-s.ensures in
     let r = ap (λ v. v.reach) h.2 in
     (subst (λ k. Gridded p.m p.n k) (length-map _ _) h.0.gridded, h.0.scale, omega arith)
 
 pub returns : goal.returns
 returns g c =
-    let d = drawn c.args.self.now.at (net_of g.K.Kind.coord c.args.self.now.patch) g.K.Kind.coord c.in-ok-s.s c.args.buffer.now c.draw-columns.new.buffer c.in-ok-s.ensures (omega arith) c.draw-columns.ensures.cut c.draw-columns.ensures.untouched in
+    let d = drawn c.args.self.now.at (net_of g.K.Kind.coord c.args.self.now.patch) g.K.Kind.coord c.in_ok-s.s c.args.buffer.now c.draw_columns.new.buffer c.in_ok-s.ensures (omega arith) c.draw_columns.ensures.cut c.draw_columns.ensures.untouched in
     record { answer = d.0; laid = d.1 }

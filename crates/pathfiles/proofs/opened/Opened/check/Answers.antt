@@ -2,4 +2,4 @@ use Rattle.pathfiles.proofs.Says.{both_read}
 use Rattle.pathfiles.proofs.opened.Opened.check.Goals as goal
 
 pub returns : goal.returns
-returns g c = record { file = _; said = both_read g.K.Filed.kind c.args.self.now _ _ c.in-ok-skip.ensures c.in-ok-skip-2.ensures }
+returns g c = record { file = _; said = both_read g.K.Filed.kind c.args.self.now _ _ c.in_ok-skip.ensures c.in_ok-skip-2.ensures }

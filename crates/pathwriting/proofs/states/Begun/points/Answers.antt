@@ -11,19 +11,19 @@ returns-in-Ok g c =
     let k = g.K.Filed.kind in
     let ps = c.args.points.now in
     let e = section-map (point_bytes k) (λ (p : g.row.K.Denot). listed g.K.Kind.width (g.K.Kind.coord p)) ps in
-    let taken = step-taken (sized (length ps)) _ c.args.self.end _ _ c.args.buffer.now _ _ c.in-default.ensures e c.in-Ok.ensures.answer c.in-Ok.ensures.written in
+    let taken = step-taken (sized (length ps)) _ c.args.self.end _ _ c.args.buffer.now _ _ c.in_default.ensures e c.in-Ok.ensures.answer c.in-Ok.ensures.written in
     record {
       step = taken;
       continues = continued (sized (length ps)) c.args.self.end _ c.args.buffer.now _ _ taken.0 taken.1;
       sound = each_map (FieldsOk (fields k)) _ ps c.in-Ok.ensures.sound;
     }
 
-pub returns-in-Err-put-section : goal.returns-in-Err-put-section
-returns-in-Err-put-section g c =
+pub returns-in-Err-put_section : goal.returns-in-Err-put_section
+returns-in-Err-put_section g c =
     let ps = c.args.points.now in
     let e = section-map (point_bytes g.K.Filed.kind) (λ (p : g.row.K.Denot). listed g.K.Kind.width (g.K.Kind.coord p)) ps in
     record {
-      step = (step-refused (sized (length ps)) _ c.args.self.end _ _ c.args.buffer.now _ c.in-default.ensures e c.in-Err-put-section.ensures.answer, refl, c.in-Err-put-section.ensures.written);
+      step = (step-refused (sized (length ps)) _ c.args.self.end _ _ c.args.buffer.now _ c.in_default.ensures e c.in-Err-put_section.ensures.answer, refl, c.in-Err-put_section.ensures.written);
       continues = tt;
       sound = tt;
     }

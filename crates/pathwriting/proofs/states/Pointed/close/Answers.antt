@@ -13,8 +13,8 @@ returns-in-Ok c =
     let d = c.args.buffer.now in
     let at = c.args.self.end in
     let bs = bytes_each working_bytes ws in
-    let taken = step-taken (workings_test ws) _ at bs bs d c.put-section.new.buffer c.in-Ok.end c.in-default.ensures refl c.in-Ok.ensures.answer c.in-Ok.ensures.written in
+    let taken = step-taken (workings_test ws) _ at bs bs d c.put_section.new.buffer c.in-Ok.end c.in_default.ensures refl c.in-Ok.ensures.answer c.in-Ok.ensures.written in
     record {
       step = taken;
-      ends = λ k a nm ps h. continued (workings_test ws) at bs d c.put-section.new.buffer c.in-Ok.end taken.0 taken.1 _ h ∙ sections-encode (file_of k a nm ps ws);
+      ends = λ k a nm ps h. continued (workings_test ws) at bs d c.put_section.new.buffer c.in-Ok.end taken.0 taken.1 _ h ∙ sections-encode (file_of k a nm ps ws);
     }

@@ -5,10 +5,10 @@ use Rattle.sources.specs.Meaning.{survey_of}
 use Rattle.sources.proofs.Meanings.{memory-err, memory-told}
 use Rattle.sources.proofs.memory.InMemorySource.survey.Goals as goal
 
-pub returns-in-err-test-size : goal.returns-in-err-test-size
-returns-in-err-test-size g c =
+pub returns-in_err-test_size : goal.returns-in_err-test_size
+returns-in_err-test_size g c =
     let p = err_from_is_err_and c.from-residual.result c.from-residual.ensures.1 in
-    rw (p.1, p.2) (sym (ap survey_of (memory-err (map g.K-as-Kind.coord c.args.self.now.points.now) c.args.self.now.allowance _ _ (length-map _ _) (sym c.in-err-test-size.ensures))))
+    rw (p.1, p.2) (sym (ap survey_of (memory-err (map g.K-as-Kind.coord c.args.self.now.points.now) c.args.self.now.allowance _ _ (length-map _ _) (sym c.in_err-test_size.ensures))))
 
 pub returns : goal.returns
-returns g c = memory-told (map g.K-as-Kind.coord c.args.self.now.points.now) c.args.self.now.allowance _ (length-map _ _) (sym c.in-ok-test-size.ensures)
+returns g c = memory-told (map g.K-as-Kind.coord c.args.self.now.points.now) c.args.self.now.allowance _ (length-map _ _) (sym c.in_ok-test_size.ensures)

@@ -4,4 +4,4 @@ use Rattle.sources.proofs.Draws.{survey-work}
 use Rattle.sources.proofs.worked.WorkedSource.survey.Goals as goal
 
 pub returns : goal.returns
-returns g c = c.after.ensures ∙ survey-work c.args.self.now.working (g.S.Source.means c.args.self.now.below) c.in-ok-s.s (g.S.Source.sound c.args.self.now.below) (c.in-ok-s.ensures ∙ ap climbing c.survey.ensures)
+returns g c = c.after.ensures ∙ survey-work c.args.self.now.working (g.S.Source.means c.args.self.now.below) c.in_ok-s.s (g.S.Source.sound c.args.self.now.below) (c.in_ok-s.ensures ∙ ap climbing c.survey.ensures)

@@ -4,10 +4,10 @@ use Rattle.strands.specs.Histories.{loaded}
 use Rattle.strands.proofs.Steps.{drawn-fit}
 use Rattle.strands.proofs.strand.Strand.load.Goals as goal
 
-pub invariant-of-result : goal.invariant-of-result
-invariant-of-result g c = (drawn-fit _ _ c.in-ok-s.s (g.S.Source.sound c.args.source.now) c.in-ok-s.ensures.answer, tt)
+pub invariant_of-result : goal.invariant_of-result
+invariant_of-result g c = (drawn-fit _ _ c.in_ok-s.s (g.S.Source.sound c.args.source.now) c.in_ok-s.ensures.answer, tt)
 
 pub returns : goal.returns
 returns g c =
-    let q = ap told c.in-ok-s.ensures.answer in
+    let q = ap told c.in_ok-s.ensures.answer in
     record { answer = q; laid = c.draw.ensures.laid; begins = loaded c.args.buffer.now (g.S.Source.sound c.args.source.now) (sym q) c.draw.ensures.laid }

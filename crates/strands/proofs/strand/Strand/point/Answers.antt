@@ -7,5 +7,5 @@ use Rattle.strands.proofs.strand.Strand.point.Goals as goal
 pub returns : goal.returns
 returns g c =
     let s = state c.args.self.now c.args.buffer.now in
-    let p = point-work g.K.Kind.coord c.args.t s (c.args.self.now.degree + 1 - 0) c.args.second.now c.copy-from-slice.new.self c.right.new.polygon c.index-second-0.result c.in-ok-weight.ensures.2 c.if-buffer-n.false c.if-second-n.false (omega arith) c.copy-from-slice.ensures.after c.right.auto.polygon c.in-ok-right.ensures.right c.index-second-0.is in
+    let p = point-work g.K.Kind.coord c.args.t s (c.args.self.now.degree + 1 - 0) c.args.second.now c.copy_from_slice.new.self c.right.new.polygon c.index-second-0.result c.in_ok-weight.ensures.2 c.if-buffer-n.false c.if-second-n.false (omega arith) c.copy_from_slice.ensures.after c.right.auto.polygon c.in_ok-right.ensures.right c.index-second-0.is in
     record { answer = p.0; second = p.1; accurate = accurate-after g.K.Kind.coord g.K.Kind.width s c.args.t _ _ p.0 }
