@@ -35,7 +35,7 @@ def main():
             if line == "}":
                 block, trait = [], False
             if re.match(r"\s*(pub(\(crate\))? )?(const )?fn ", line):
-                own = BOUND.findall(line.split("(")[0])
+                own = BOUND.findall(line.split(" fn ")[-1].split("(")[0])
             if re.match(r"\s*(requires|ensures)", line) and not trait:
                 line = qualified(line, [b for b in block + own])
             out.append(line)

@@ -57,10 +57,10 @@ pub(crate) fn walk<K: Kind>(
     done: usize,
 ) -> Result<usize, Fault>
     requires { Walkable halvings start done stack.old }
-    ensures answer { result ≡ counted (top_pieces coord width (λ _. tolerance) halvings start stack.old) done }
-    ensures stack { Walked (top_pieces coord width (λ _. tolerance) halvings start stack.old) halvings stack.old stack.new }
-    ensures points { WhenKept (top_pieces coord width (λ _. tolerance) halvings start stack.old) (λ xs. PutFrom coord done (ends xs) points.old points.new) }
-    ensures parameters { WhenKept (top_pieces coord width (λ _. tolerance) halvings start stack.old) (λ xs. PutFrom (λ t. t) done (marks xs) parameters.old parameters.new) }
+    ensures answer { result ≡ counted (top_pieces K.coord K.width (λ _. tolerance) halvings start stack.old) done }
+    ensures stack { Walked (top_pieces K.coord K.width (λ _. tolerance) halvings start stack.old) halvings stack.old stack.new }
+    ensures points { WhenKept (top_pieces K.coord K.width (λ _. tolerance) halvings start stack.old) (λ xs. PutFrom K.coord done (ends xs) points.old points.new) }
+    ensures parameters { WhenKept (top_pieces K.coord K.width (λ _. tolerance) halvings start stack.old) (λ xs. PutFrom (λ t. t) done (marks xs) parameters.old parameters.new) }
     ensures same { stack.new.buffer.ghost_name ≡ stack.old.buffer.ghost_name }
 {
     if is_flat(stack.top(), tolerance)? {

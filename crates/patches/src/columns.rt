@@ -37,7 +37,7 @@ pub(crate) fn draw_columns<K: Kind>(
     buffer: &mut [K],
 )
     requires { Gridded m n (length points.now) × (off_scale s ≡ false) × (n + 1 + m ≤ length buffer.old) }
-    ensures cut { map coord (take (n + 1) buffer.new) ≡ cut_points s m n (map coord points.now) }
+    ensures cut { map K.coord (take (n + 1) buffer.new) ≡ cut_points s m n (map K.coord points.now) }
     ensures untouched { drop (n + 1 + m) buffer.new ≡ drop (n + 1 + m) buffer.old }
 {
     for j in 0..n + 1 {

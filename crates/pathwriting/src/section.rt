@@ -10,7 +10,7 @@ use points::fault::Fault;
 // How many bytes the items have, one after another.
 pub(crate) fn items_size<I: Encode>(items: &[I]) -> usize
     requires { length items.now ≤ 256 }
-    ensures { (result ≡ length (flat_map bytes items.now)) × (result ≤ 12 * length items.now) }
+    ensures { (result ≡ length (flat_map I.bytes items.now)) × (result ≤ 12 * length items.now) }
 {
     let mut n = 0;
     for item in items {
@@ -39,9 +39,9 @@ pub(crate) fn put_section<I: Encode>(
     items: &[I],
 ) -> Result<usize, Fault>
     requires { (at ≤ 300) × (length items.now ≤ 256) }
-    ensures answer { result ≡ room_for (at + length (bytes_each bytes items.now)) (length buffer.old) }
-    ensures written { Writes at (bytes_each bytes items.now) buffer.old buffer.new result }
-    ensures sound { OnOk result (Each sound items.now) }
+    ensures answer { result ≡ room_for (at + length (bytes_each I.bytes items.now)) (length buffer.old) }
+    ensures written { Writes at (bytes_each I.bytes items.now) buffer.old buffer.new result }
+    ensures sound { OnOk result (Each I.sound items.now) }
     ensures small { IfOk result (λ end. end ≤ at + 2 + 12 * length items.now) }
 {
     let end = test_room(at + 2 + items_size(items), buffer.len())?;

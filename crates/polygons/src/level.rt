@@ -21,7 +21,7 @@ pub(crate) fn test_call(t: Parameter, points: usize) -> Result<Weight, Fault>
 // One pass of mixes: each of the first n points with the one after it.
 pub(crate) fn mix_level<K: Kind>(p: &mut [K], n: usize, w: Weight)
     requires { n < length p.old }
-    ensures passes { Passed (mix_point w.num w.den) (map coord p.old) (map coord p.new) n }
+    ensures passes { Passed (mix_point w.num w.den) (map K.coord p.old) (map K.coord p.new) n }
     ensures rest { drop n p.new ≡ drop n p.old }
 {
     for i in 0..n {
