@@ -7,8 +7,8 @@ use Rattle.flattening.proofs.chords.flatten_within.Goals.{then-points-count-via-
 pub returns-in_err-count : goal.returns-in_err-count
 returns-in_err-count g c =
     let m = g.S.Source.means c.args.source.now in
-    let p = err_from_is_err_and c.from-residual.result c.from-residual.ensures.1 in
-    let w = within-bent g.K.Kind.coord g.K.Kind.width (λ _. c.args.tolerance) c.args.survey c.args.points.now c.args.parameters.now m c.in_err-count.field_0.0 c.requires.0 (sym c.in_err-count.was ∙ c.walk_source.ensures.answer) in
+    let p = err_from_is_err_and c.from_residual.result c.from_residual.ensures.1 in
+    let w = within-bent g.K.Kind.coord g.K.Kind.width (λ _. c.args.tolerance) c.args.survey c.args.points.now c.args.parameters.now m c.in_err-count.field-0.0 c.requires.0 (sym c.in_err-count.was ∙ c.walk_source.ensures.answer) in
     rw (p.1, p.2) (record { answer = w.answer; points = w.points; parameters = w.parameters })
 
 pub returns-then-points-count : goal.returns-then-points-count

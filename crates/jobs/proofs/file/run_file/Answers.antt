@@ -8,7 +8,7 @@ returns-in_err-n g c =
     let k = g.K.Filed.kind in
     let o = c.args.file.now in
     let t = c.in_ok-check.ensures in
-    let p = err_from_is_err_and c.from-residual-in_err-n.result c.from-residual-in_err-n.ensures.1 in
+    let p = err_from_is_err_and c.from_residual-in_err-n.result c.from_residual-in_err-n.ensures.1 in
     let m = workings-refused k o t.file t.said _ 256 c.in_err-n.ensures.answer in
     rw (p.1, p.2) (too_many k o t.file t.said g.K.Kind.coord g.K.Kind.width c.args.buffer.now c.args.buffer.now _ m.0 m.1 refl)
 

@@ -9,7 +9,7 @@ use Rattle.native.proofs.opening.planar_open.Goals as goal
 pub returns-in-Ok-points : goal.returns-in-Ok-points
 returns-in-Ok-points c =
     let opens = c.in-Ok.ensures.answer in
-    let v = filed (decode PlanarFile c.args.file.now) c.in-Ok.o opens c.args.buffer.now c.points.new.buffer c.in-Ok-points.field_0 c.in-Ok-points.ensures.answer c.in-Ok-points.ensures.buffer in
+    let v = filed (decode PlanarFile c.args.file.now) c.in-Ok.o opens c.args.buffer.now c.points.new.buffer c.in-Ok-points.field-0 c.in-Ok-points.ensures.answer c.in-Ok-points.ensures.buffer in
     let a = c.allowance.ensures.said opens.file opens.said in
     let n = ap length (c.name.ensures.said opens.file opens.said) in
     let p = c.point_count.ensures.said opens.file opens.said in

@@ -12,7 +12,7 @@ use Rattle.pathwriting.proofs.whole.test_file.Goals as goal
 
 pub returns-in_err-test_size : goal.returns-in_err-test_size
 returns-in_err-test_size g c =
-    let p = err_from_is_err_and c.from-residual-in_err-test_size.result c.from-residual-in_err-test_size.ensures.1 in
+    let p = err_from_is_err_and c.from_residual-in_err-test_size.result c.from_residual-in_err-test_size.ensures.1 in
     let ps = c.args.points.now in
     let f : File = file_of g.K.Filed.kind c.args.allowance c.args.name.now (axis_values g.K.Kind.width g.K.Kind.coord ps) c.args.workings.now in
     let passed = write-counted f c.args.places _ _ _ c.in_ok-test_parameters.ensures c.in_ok-test_name.ensures c.in_ok-test_count.ensures in

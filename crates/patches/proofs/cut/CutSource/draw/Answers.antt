@@ -10,7 +10,7 @@ use Rattle.patches.proofs.cut.CutSource.draw.Goals as goal
 pub returns-in_err-s : goal.returns-in_err-s
 returns-in_err-s g c =
     let m = cut_of c.args.self.now.at (net_of g.K.Kind.coord c.args.self.now.patch) in
-    let p = err_from_is_err_and c.from-residual.result c.from-residual.ensures.1 in
+    let p = err_from_is_err_and c.from_residual.result c.from_residual.ensures.1 in
     let is = surveyed-err m _ (sym c.in_err-s.ensures) in
     rw (p.1, p.2) (record { answer = sym (ap (λ v. draw_of v (length c.args.buffer.now)) is); laid = laid_by g.K.Kind.coord _ _ _ _ is refl })
 

@@ -22,8 +22,8 @@ returns g c =
     let m = file-held k o t.file t.said s c.in_ok-s.ensures in
     let room : length t.file.points ≤ length c.args.buffer.now = omega (arith, m.2) in
     let r = c.in_ok-points.ensures.answer ∙ points-placed k o t.file t.said (length c.args.buffer.now) room in
-    let n : c.in_ok-points.field_0 ≡ length t.file.points = cc in
+    let n : c.in_ok-points.field-0 ≡ length t.file.points = cc in
     record {
       answer = drawn-ok _ (length c.args.buffer.now) s _ m.0 m.1 room;
-      laid = laid_by g.K.Kind.coord _ _ _ _ m.0 (points-laid k o t.file t.said g.K.Kind.width g.K.Kind.coord g.met.K.Kind.lacks c.args.buffer.now c.points.new.buffer c.in_ok-points.field_0 n (omega arith) c.in_ok-points.ensures.buffer);
+      laid = laid_by g.K.Kind.coord _ _ _ _ m.0 (points-laid k o t.file t.said g.K.Kind.width g.K.Kind.coord g.met.K.Kind.lacks c.args.buffer.now c.points.new.buffer c.in_ok-points.field-0 n (omega arith) c.in_ok-points.ensures.buffer);
     }

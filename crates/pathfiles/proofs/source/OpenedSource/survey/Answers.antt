@@ -5,7 +5,7 @@ use Rattle.pathfiles.proofs.source.OpenedSource.survey.Goals as goal
 
 pub returns-in_err-test_size : goal.returns-in_err-test_size
 returns-in_err-test_size g c =
-    let p = err_from_is_err_and c.from-residual-in_err-test_size.result c.from-residual-in_err-test_size.ensures.1 in
+    let p = err_from_is_err_and c.from_residual-in_err-test_size.result c.from_residual-in_err-test_size.ensures.1 in
     let t = c.in_ok-check.ensures in
     let n = c.from-n.ensures ∙ c.point_count.ensures.said t.file t.said in
     rw (p.1, p.2) (sym (file-refused g.K.Filed.kind c.args.self.now t.file t.said c.from-n.result _ n (sym c.in_err-test_size.ensures)))

@@ -7,15 +7,15 @@ use Rattle.pathreading.proofs.section.Section.read_onto.Goals as goal
 pub returns-in_err-item : goal.returns-in_err-item
 returns-in_err-item g c =
     let s = c.args.self in
-    absurd (none-fails g.I-as-Item.reads s.total c.loop-i.i s.count s.items.now _ _ _ _ (omega arith) c.in_ok-skip.ensures c.loop-i.invariant.0 c.in_err-item.ensures)
+    absurd (none-fails g.I.Item.reads s.total c.loop-i.i s.count s.items.now _ _ _ _ (omega arith) c.in_ok-skip.ensures c.loop-i.invariant.0 c.in_err-item.ensures)
 
 pub loop-i-preserved : goal.loop-i-preserved
 loop-i-preserved g c =
     let i = c.loop-i.i in
     let b = c.loop-i.buffer in
     let x = c.in_ok-item.item in
-    let rd = g.I-as-Item.reads in
-    let value = g.I-as-Item.value in
+    let rd = g.I.Item.reads in
+    let value = g.I.Item.value in
     let lt : i < length b = omega arith in
     let one = many_more rd c.args.self.total i c.args.self.items.now _ _ _ _ c.loop-i.invariant.0 c.in_ok-item.ensures in
     let front = ap (map value) (take_more_set b i x lt) ∙ map_push value _ x in (

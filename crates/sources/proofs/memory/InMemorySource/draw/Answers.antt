@@ -6,13 +6,13 @@ use Rattle.sources.proofs.memory.InMemorySource.draw.Goals as goal
 pub slice_bounds-copy_from_slice-end : goal.slice_bounds-copy_from_slice-end
 slice_bounds-copy_from_slice-end g c =
     let xs = c.args.self.now.points.now in
-    let m = memory-surveyed (map g.K-as-Kind.coord xs) c.args.self.now.allowance (length xs) c.in_ok-s.s (length-map _ _) c.in_ok-s.ensures in
+    let m = memory-surveyed (map g.K.Kind.coord xs) c.args.self.now.allowance (length xs) c.in_ok-s.s (length-map _ _) c.in_ok-s.ensures in
     omega (arith, m.2)
 
 pub returns : goal.returns
 returns g c =
     let xs = c.args.self.now.points.now in
-    let co = g.K-as-Kind.coord in
+    let co = g.K.Kind.coord in
     let e = c.args.self.now.allowance in
     let n = length xs in
     let m = memory-surveyed (map co xs) e n c.in_ok-s.s (length-map _ _) c.in_ok-s.ensures in

@@ -7,8 +7,8 @@ use Rattle.sources.proofs.memory.InMemorySource.survey.Goals as goal
 
 pub returns-in_err-test_size : goal.returns-in_err-test_size
 returns-in_err-test_size g c =
-    let p = err_from_is_err_and c.from-residual.result c.from-residual.ensures.1 in
-    rw (p.1, p.2) (sym (ap survey_of (memory-err (map g.K-as-Kind.coord c.args.self.now.points.now) c.args.self.now.allowance _ _ (length-map _ _) (sym c.in_err-test_size.ensures))))
+    let p = err_from_is_err_and c.from_residual.result c.from_residual.ensures.1 in
+    rw (p.1, p.2) (sym (ap survey_of (memory-err (map g.K.Kind.coord c.args.self.now.points.now) c.args.self.now.allowance _ _ (length-map _ _) (sym c.in_err-test_size.ensures))))
 
 pub returns : goal.returns
-returns g c = memory-told (map g.K-as-Kind.coord c.args.self.now.points.now) c.args.self.now.allowance _ (length-map _ _) (sym c.in_ok-test_size.ensures)
+returns g c = memory-told (map g.K.Kind.coord c.args.self.now.points.now) c.args.self.now.allowance _ (length-map _ _) (sym c.in_ok-test_size.ensures)

@@ -10,7 +10,7 @@ pub returns-in_err-t : goal.returns-in_err-t
 returns-in_err-t g c =
     let w = c.args.self.now.working in
     let m = g.S.Source.means c.args.self.now.below in
-    let p = err_from_is_err_and c.from-residual-in_err-t.result c.from-residual-in_err-t.ensures.1 in
+    let p = err_from_is_err_and c.from_residual-in_err-t.result c.from_residual-in_err-t.ensures.1 in
     let n = length c.args.buffer.now in
     let is = surveyed-err (work w m) _ (sym (survey-work w m c.in_ok-s.s (g.S.Source.sound c.args.self.now.below) (c.in_ok-s.ensures ∙ ap climbing c.survey.ensures)) ∙ sym c.in_err-t.ensures) in
     rw (p.1, p.2) (record { answer = sym (ap (λ v. draw_of v n) is); laid = laid_by g.S.K.Kind.coord _ _ _ _ is refl })

@@ -11,9 +11,9 @@ pub returns-in_err-above : goal.returns-in_err-above
 returns-in_err-above g c =
     let co = g.K.Kind.coord in
     let s = state c.args.self.now c.args.buffer.now in
-    let p = err_from_is_err_and c.from-residual.result c.from-residual.ensures.1 in
-    let step = step-refused co c.args.working s _ (ap (λ v. placed v (length c.args.buffer.now)) c.in_err-above.ensures) c.from-residual.result (p.1 ∙ ap Err p.2) in
-    record { step = step; continues = continues co c.args.working s s c.from-residual.result step }
+    let p = err_from_is_err_and c.from_residual.result c.from_residual.ensures.1 in
+    let step = step-refused co c.args.working s _ (ap (λ v. placed v (length c.args.buffer.now)) c.in_err-above.ensures) c.from_residual.result (p.1 ∙ ap Err p.2) in
+    record { step = step; continues = continues co c.args.working s s c.from_residual.result step }
 
 pub returns-then-buffer-above : goal.returns-then-buffer-above
 returns-then-buffer-above g c =
