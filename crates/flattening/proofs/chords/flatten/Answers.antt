@@ -11,6 +11,6 @@ returns g c =
     let k = c.max-needed.result in
     let part = c.flatten_within.new.places in
     let r = c.flatten_within.ensures in
-    let w = flattened g.K.Kind.coord g.K.Kind.width (λ _. c.args.tolerance) s bs (part ++ drop (k - 0) bs) c.args.points.now c.flatten_within.new.points c.args.parameters.now c.flatten_within.new.parameters m c.flatten_within.result (k - 0) part (g.S.Source.sound c.args.source.now) c.in_ok-survey.ensures (omega (arith, c.max-needed.ensures)) (omega arith) refl (c.flatten_within.auto.places ∙ length-take-le (k - 0) bs (omega arith))
+    let w = flattened g.S.K.Kind.coord g.S.K.Kind.width (λ _. c.args.tolerance) s bs (part ++ drop (k - 0) bs) c.args.points.now c.flatten_within.new.points c.args.parameters.now c.flatten_within.new.parameters m c.flatten_within.result (k - 0) part (g.S.Source.sound c.args.source.now) c.in_ok-survey.ensures (omega (arith, c.max-needed.ensures)) (omega arith) refl (c.flatten_within.auto.places ∙ length-take-le (k - 0) bs (omega arith))
     (record { answer = r.answer; points = r.points; parameters = r.parameters }) in
     record { answer = w.answer; working = w.working; points = w.points; parameters = w.parameters; chords = w.chords }

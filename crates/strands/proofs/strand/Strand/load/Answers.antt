@@ -5,7 +5,7 @@ use Rattle.strands.proofs.Steps.{drawn-fit}
 use Rattle.strands.proofs.strand.Strand.load.Goals as goal
 
 pub invariant_of-result : goal.invariant_of-result
-invariant_of-result g c = (drawn-fit _ _ c.in_ok-s.s (g.S.Source.sound c.args.source.now) c.in_ok-s.ensures.answer, tt)
+invariant_of-result g c = record { fits = drawn-fit _ _ c.in_ok-s.s (g.S.Source.sound c.args.source.now) c.in_ok-s.ensures.answer }
 
 pub returns : goal.returns
 returns g c =
