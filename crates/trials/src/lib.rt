@@ -10,6 +10,6 @@ mod piles;
 #[cfg(test)]
 mod refusals;
 #[cfg(test)]
-mod strands;
+mod strand_calls;
 #[cfg(test)]
 mod table;

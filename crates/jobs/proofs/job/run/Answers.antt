@@ -9,18 +9,18 @@ loop-w-init g c = (refl, (c.in_ok-strand.ensures.begins, refl), omega arith)
 
 pub returns-in-Err : goal.returns-in-Err
 returns-in-Err g c =
-    let co = g.K.Kind.coord in
+    let co = g.S.K.Kind.coord in
     let m = g.S.Source.means c.args.source.now in
     let ws = c.args.workings.now in
     let s = state c.loop-w.strand c.loop-w.buffer in
     let s' = state c.work.new.self c.work.new.buffer in
     let start = loaded-rest co m c.args.buffer.now (state c.in_ok-strand.strand c.load.new.buffer) (sym c.in_ok-strand.ensures.answer) c.load.ensures.laid in
     let rest = rest_from m _ _ c.args.buffer.now c.load.new.buffer c.loop-w.buffer c.loop-w.invariant.2 start c.loop-w.invariant.1.1 in
-    subst (λ n. Ran co g.K.Kind.width m ws n (Some c.in-Err.f) c.args.buffer.now s') (sym c.loop-w.invariant.0) (done-stop co m ws c.loop-w.w-index _ _ c.load.new.buffer s s' c.loop-w-test.true refl c.in-Err.f c.args.buffer.now c.in-Err.ensures.step c.loop-w.invariant.1.0 rest g.K.Kind.width)
+    subst (λ n. Ran co g.S.K.Kind.width m ws n (Some c.in-Err.f) c.args.buffer.now s') (sym c.loop-w.invariant.0) (done-stop co m ws c.loop-w.w-index _ _ c.load.new.buffer s s' c.loop-w-test.true refl c.in-Err.f c.args.buffer.now c.in-Err.ensures.step c.loop-w.invariant.1.0 rest g.S.K.Kind.width)
 
 pub loop-w-preserved : goal.loop-w-preserved
 loop-w-preserved g c =
-    let co = g.K.Kind.coord in
+    let co = g.S.K.Kind.coord in
     let m = g.S.Source.means c.args.source.now in
     let s = state c.loop-w.strand c.loop-w.buffer in
     let s' = state c.work.new.self c.work.new.buffer in
@@ -29,9 +29,9 @@ loop-w-preserved g c =
 
 pub returns : goal.returns
 returns g c =
-    let co = g.K.Kind.coord in
+    let co = g.S.K.Kind.coord in
     let m = g.S.Source.means c.args.source.now in
     let start = loaded-rest co m c.args.buffer.now (state c.in_ok-strand.strand c.load.new.buffer) (sym c.in_ok-strand.ensures.answer) c.load.ensures.laid in
     let rest = rest_from m _ _ c.args.buffer.now c.load.new.buffer c.loop-w.buffer c.loop-w.invariant.2 start c.loop-w.invariant.1.1 in
     let s = state c.loop-w.strand c.loop-w.buffer in
-    subst (λ n. Ran co g.K.Kind.width m c.args.workings.now n None c.args.buffer.now s) (sym c.loop-w.invariant.0) (ran co g.K.Kind.width m c.args.workings.now c.loop-w.w-index None c.args.buffer.now s c.loop-w.invariant.1.0 (omega arith) rest)
+    subst (λ n. Ran co g.S.K.Kind.width m c.args.workings.now n None c.args.buffer.now s) (sym c.loop-w.invariant.0) (ran co g.S.K.Kind.width m c.args.workings.now c.loop-w.w-index None c.args.buffer.now s c.loop-w.invariant.1.0 (omega arith) rest)
