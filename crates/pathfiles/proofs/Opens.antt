@@ -18,7 +18,7 @@ use Rattle.pathfiles.specs.Opened.{OpensBy, Holds, NoFile}
 
 -- the four sections, read one after another
 module _ (k : FileKind) (n : ℕ) (bs r₁ r₂ r₃ r₄ nm : List ℕ) (a : ℕ) (ps ws : Section) where
-  pub sections-read : (j : FileKind) → j ≡ k → head_at j n bs ≡ took a r₁ → name_at n r₁ ≡ took nm r₂ → Started (point_at k) (points_at k n r₂) n r₂ ps r₃ → Started working_at (workings_at n r₃) n r₃ ws r₄ → sections k n bs ≡ ended (record { kind = k; allowance = a; name = nm; points = values (items_of (point_at k) ps); workings = values (items_of working_at ws) }) n r₄
+  pub sections-read : (j : FileKind) → j ≡ k → head_at j n bs ≡ took a r₁ → name_at n r₁ ≡ took nm r₂ → Started (point_at k) (points_at k n r₂) ps r₃ → Started working_at (workings_at n r₃) ws r₄ → sections k n bs ≡ ended (record { kind = k; allowance = a; name = nm; points = values (items_of (point_at k) ps); workings = values (items_of working_at ws) }) n r₄
   sections-read j same e₁ e₂ e₃ e₄ =
       at_after (head_at k n bs) _ a r₁ (ap (λ i. head_at i n bs) (sym same) ∙ e₁) ∙ at_after (name_at n r₁) _ nm r₂ e₂ ∙ at_after (points_at k n r₂) _ _ r₃ (e₃.items ∙ e₃.ends) ∙ at_after (workings_at n r₃) _ _ r₄ (e₄.items ∙ e₄.ends)
 

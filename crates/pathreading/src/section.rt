@@ -1,9 +1,9 @@
-ghost use Rattle.std.specs.Prelude.{◌≡◌, length};
+ghost use Rattle.std.specs.Prelude.{◌≡◌, length, IfOk};
 ghost use Rattle.std.specs.Option.{option_map};
 ghost use Rattle.pathformat.specs.Reading.{counted, values};
 ghost use Rattle.pathformat.specs.File.{within};
 ghost use Rattle.pathreading.specs.Outcomes.{Skips, placing, Placed};
-ghost use Rattle.pathreading.specs.Sections.{items_of, item_at, Starts};
+ghost use Rattle.pathreading.specs.Sections.{items_of, item_at, Starts, HoldsBytes};
 
 use crate::fields::{fault_at, two_bytes};
 use crate::item::Item;
@@ -26,7 +26,8 @@ impl<'a> Section<'a> {
         total: usize,
         file: &'a [u8],
     ) -> Result<(Section<'a>, &'a [u8]), Fault>
-        ensures { Starts I.reads (counted (within least most) refusal I.reads total file.now) total file.now result }
+        ensures starts { Starts I.reads (counted (within least most) refusal I.reads total file.now) result }
+        ensures bytes { IfOk result (λ v. HoldsBytes total file.now v.0) }
     {
         let (count, items) = two_bytes(total, file)?;
         if count < least || count > most {
