@@ -16,7 +16,7 @@ use Rattle.pathfiles.specs.Opened.{workings_of, says}
 use Rattle.pathfiles.specs.Filed.{filed}
 use Rattle.pathfiles.proofs.Says.{parts, working-count-said}
 use Rattle.jobs.specs.declared.job.Job.{Job}
-use Rattle.jobs.specs.Jobs.{Answers, FileAnswers}
+use Rattle.jobs.specs.Jobs.{Answers, CarriesDone, FileAnswers}
 
 map_same : {X : Type 0} (xs : List X) → map (λ x. x) xs ≡ xs
 map_same [] = refl
@@ -49,9 +49,11 @@ module _ {K : Type 0} (k : FileKind) (o : Opened K) (f : File) (e : says k o ≡
   workings-read xs h = let p = parts k o f e in sym (map_same xs) ∙ h ∙ ap values p.workings
 
   module _ {X : Type 0} (c : X → Point) (width : ℕ) (before after : List X) where
-    pub answers : (ws : List Working) (r : Result Job Fault) → ws ≡ f.workings → length f.workings ≤ 256 → Answers c width (filed (says k o)) ws before after r → FileAnswers c width (says k o) before after r
-    answers ws r same few h =
-        let here : Answers c width (filed (took f [])) f.workings before after r = subst (λ q. Answers c width (filed q) f.workings before after r) e (subst (λ vs. Answers c width (filed (says k o)) vs before after r) same h) in
+    -- a job on the workings that were read answers as one on the file
+    pub answers : (ws : List Working) (r : Result Job Fault) → ws ≡ f.workings → length f.workings ≤ 256 → Answers c (filed (says k o)) ws before after r → CarriesDone c width (filed (says k o)) ws after r → FileAnswers c width (says k o) before after r
+    answers ws r same few h carries =
+        let both = subst (λ vs. Answers c (filed (says k o)) vs before after r × CarriesDone c width (filed (says k o)) vs after r) same (h, carries) in
+        let here = subst (λ q. Answers c (filed q) f.workings before after r × CarriesDone c width (filed q) f.workings after r) e both in
         subst (λ q. FileAnswers c width q before after r) (sym e) ((λ _. here), (λ (l : 256 < length f.workings). absurd (omega arith)))
 
     pub too_many : (x : Fault) → 256 < length f.workings → x ≡ refuse Short (length f.workings) → after ≡ before → FileAnswers c width (says k o) before after (Err x)

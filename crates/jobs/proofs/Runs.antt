@@ -11,7 +11,7 @@ use Rattle.sources.proofs.Meanings.{drawn-told, drop-further}
 use Rattle.strands.specs.States.{State, load_of, rework_of, Stepped, Step, strand_point}
 use Rattle.strands.specs.Histories.{works, Reaches, Continues}
 use Rattle.strands.proofs.Histories.{told-ok, keeps, step-rest, accurate-after}
-use Rattle.jobs.specs.Jobs.{Stopped, written, Ran}
+use Rattle.jobs.specs.Jobs.{Stopped, written, Ran, Carries}
 
 -- the first n workings were done, and the places that were not written are as before
 abbrev pub Done : {X : Type 0} → (X → Point) → Meaning → List Working → ℕ → List X → State X → Type 0
@@ -38,14 +38,14 @@ pub rest_from : {X : Type 0} (m : Meaning) (d e : ℕ) (before loaded after : Li
 rest_from m d e before loaded after l p q = q ∙ drop-further loaded before (written m d) (written m e) (more-written m d e l) p
 
 -- workings that were done one after another keep their pile, and its points are accurate
-pub ran : {X : Type 0} (c : X → Point) (width : ℕ) (m : Meaning) (ws : List Working) (n : ℕ) (f : Option Fault) (before : List X) (s : State X) → Reaches c m (map works (take n ws)) (take n ws) s → Stopped ws n f s → drop (written m s.degree) s.buffer ≡ drop (written m s.degree) before → Ran c width m ws n f before s
-ran c width m ws n f before s r stop rest = record {
-  done = r;
-  keeps = keeps c m r;
-  accurate = λ t places bottom vs e. accurate-after c width s t places (strand_point c t s places) refl m (map works (take n ws)) (take n ws) r bottom vs e;
-  stopped = stop;
-  untouched = rest;
-}
+pub ran : {X : Type 0} (c : X → Point) (width : ℕ) (m : Meaning) (ws : List Working) (n : ℕ) (f : Option Fault) (before : List X) (s : State X) → Reaches c m (map works (take n ws)) (take n ws) s → Stopped ws n f s → drop (written m s.degree) s.buffer ≡ drop (written m s.degree) before → Ran c m ws n f before s × Carries c width m (take n ws) s
+ran c width m ws n f before s r stop rest = (
+  record { done = r; stopped = stop; untouched = rest },
+  record {
+    keeps = keeps c m r;
+    accurate = λ t places bottom vs e. accurate-after c width s t places (strand_point c t s places) refl m (map works (take n ws)) (take n ws) r bottom vs e;
+  },
+)
 
 module _ {X : Type 0} (c : X → Point) (m : Meaning) (ws : List Working) (n : ℕ) (w d : Working) (before : List X) (s s' : State X) (l : n < length ws) (e : w ≡ get_or ws n d) where
   pub done_more : (u : Unit {0}) → Continues c w s s' (Ok u) → Step c w s s' (Ok u) → Done c m ws n before s → Done c m ws (n + 1) before s' × (s.degree ≤ s'.degree)
@@ -65,7 +65,7 @@ module _ {X : Type 0} (c : X → Point) (m : Meaning) (ws : List Working) (n : �
   step-err (Ok t) f h = err-ok f tt h.0
   step-err (Err g) f h = let k = h.0 in let q : g ≡ f = cc in (ap Err q, h.1)
 
-  pub done-stop : (f : Fault) (start : List X) → Step c w s s' (Err f) → Reaches c m (map works (take n ws)) (take n ws) s → drop (written m s.degree) s.buffer ≡ drop (written m s.degree) start → (width : ℕ) → Ran c width m ws n (Some f) start s'
+  pub done-stop : (f : Fault) (start : List X) → Step c w s s' (Err f) → Reaches c m (map works (take n ws)) (take n ws) s → drop (written m s.degree) s.buffer ≡ drop (written m s.degree) start → (width : ℕ) → Ran c m ws n (Some f) start s' × Carries c width m (take n ws) s'
   done-stop f start h r q width =
       let k = step-err (rework_of w s) f h in
       ran c width m ws n (Some f) start s' (subst (Reaches c m (map works (take n ws)) (take n ws)) (sym k.1) r)

@@ -1,4 +1,4 @@
-ghost use Rattle.jobs.specs.Jobs.{Answers};
+ghost use Rattle.jobs.specs.Jobs.{Answers, CarriesDone};
 
 use points::fault::Fault;
 use sources::source::Source;
@@ -15,7 +15,8 @@ pub struct Job {
 
 // Loads a source and applies the workings in order; it stops at the first that is refused. A load that is refused leaves the buffer as found.
 pub fn run<S: Source>(source: &S, workings: &[Working], buffer: &mut [S::K]) -> Result<Job, Fault>
-    ensures { Answers S.K.Kind.coord S.K.Kind.width (S.means source.now) workings.now buffer.old buffer.new result }
+    ensures answers { Answers S.K.Kind.coord (S.means source.now) workings.now buffer.old buffer.new result }
+    ensures carries { CarriesDone S.K.Kind.coord S.K.Kind.width (S.means source.now) workings.now buffer.new result }
 {
     let mut strand = Strand::load(source, buffer)?;
     let mut done = 0;

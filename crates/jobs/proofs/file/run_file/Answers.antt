@@ -21,4 +21,4 @@ returns g c =
     let n = c.in_ok-n.n in
     let whole : n - 0 ≡ n = omega arith in
     let same = ap (λ j. take j c.workings.new.buffer) whole ∙ workings-read k o t.file t.said (take n c.workings.new.buffer) c.in_ok-n.ensures.buffer.0 in
-    answers k o t.file t.said g.K.Kind.coord g.K.Kind.width c.args.buffer.now c.run.new.buffer _ c.run.result same m.0 c.run.ensures
+    answers k o t.file t.said g.K.Kind.coord g.K.Kind.width c.args.buffer.now c.run.new.buffer _ c.run.result same m.0 c.run.ensures.answers c.run.ensures.carries

@@ -1,6 +1,6 @@
-use Rattle.std.proofs.Common.{Some, None, sym, refl, subst, arith}
+use Rattle.std.proofs.Common.{take, Some, None, sym, refl, subst, arith}
 use Rattle.strands.specs.States.{state}
-use Rattle.jobs.specs.Jobs.{Ran}
+use Rattle.jobs.specs.Jobs.{Ran, Carries}
 use Rattle.jobs.proofs.Runs.{loaded-rest, rest_from, ran, done_more, done-stop}
 use Rattle.jobs.proofs.job.run.Goals as goal
 
@@ -16,7 +16,9 @@ returns-in-Err g c =
     let s' = state c.work.new.self c.work.new.buffer in
     let start = loaded-rest co m c.args.buffer.now (state c.in_ok-strand.strand c.load.new.buffer) (sym c.in_ok-strand.ensures.answer) c.load.ensures.laid in
     let rest = rest_from m _ _ c.args.buffer.now c.load.new.buffer c.loop-w.buffer c.loop-w.invariant.2 start c.loop-w.invariant.1.1 in
-    subst (λ n. Ran co g.S.K.Kind.width m ws n (Some c.in-Err.f) c.args.buffer.now s') (sym c.loop-w.invariant.0) (done-stop co m ws c.loop-w.w-index _ _ c.load.new.buffer s s' c.loop-w-test.true refl c.in-Err.f c.args.buffer.now c.in-Err.ensures.step c.loop-w.invariant.1.0 rest g.S.K.Kind.width)
+    let width = g.S.K.Kind.width in
+    let both = subst (λ n. Ran co m ws n (Some c.in-Err.f) c.args.buffer.now s' × Carries co width m (take n ws) s') (sym c.loop-w.invariant.0) (done-stop co m ws c.loop-w.w-index _ _ c.load.new.buffer s s' c.loop-w-test.true refl c.in-Err.f c.args.buffer.now c.in-Err.ensures.step c.loop-w.invariant.1.0 rest width) in
+    record { answers = both.0; carries = both.1 }
 
 pub loop-w-preserved : goal.loop-w-preserved
 loop-w-preserved g c =
@@ -34,4 +36,7 @@ returns g c =
     let start = loaded-rest co m c.args.buffer.now (state c.in_ok-strand.strand c.load.new.buffer) (sym c.in_ok-strand.ensures.answer) c.load.ensures.laid in
     let rest = rest_from m _ _ c.args.buffer.now c.load.new.buffer c.loop-w.buffer c.loop-w.invariant.2 start c.loop-w.invariant.1.1 in
     let s = state c.loop-w.strand c.loop-w.buffer in
-    subst (λ n. Ran co g.S.K.Kind.width m c.args.workings.now n None c.args.buffer.now s) (sym c.loop-w.invariant.0) (ran co g.S.K.Kind.width m c.args.workings.now c.loop-w.w-index None c.args.buffer.now s c.loop-w.invariant.1.0 (omega arith) rest)
+    let ws = c.args.workings.now in
+    let width = g.S.K.Kind.width in
+    let both = subst (λ n. Ran co m ws n None c.args.buffer.now s × Carries co width m (take n ws) s) (sym c.loop-w.invariant.0) (ran co width m ws c.loop-w.w-index None c.args.buffer.now s c.loop-w.invariant.1.0 (omega arith) rest) in
+    record { answers = both.0; carries = both.1 }
