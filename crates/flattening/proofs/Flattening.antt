@@ -16,7 +16,7 @@ use Rattle.flattening.specs.Flat.{flat?, flat_pieces}
 use Rattle.flattening.specs.Vertices.{first_of, last_of, vertices, parameters}
 use Rattle.flattening.specs.Stacks.{top_of}
 use Rattle.flattening.specs.Walks.{counted, PutFrom}
-use Rattle.flattening.specs.Flattening.{needed, judged, flatten_of, decided, Freed, vertices_of, parameters_of, PutsFirst, Drawable, walk_of, PutsSome}
+use Rattle.flattening.specs.Flattening.{needed, judged, flatten_of, decided, Freed, vertices_of, parameters_of, PutsFirst, Stackable, walk_of, PutsSome}
 use Rattle.flattening.specs.Chords.{ChordBound}
 use Rattle.flattening.proofs.Puts.{put_one, put-more}
 use Rattle.flattening.proofs.Walks.{Walk, kept_from, bent-from}
@@ -43,7 +43,7 @@ put_some c (kept ps) r first f ys xs mid xs' eb ek e p q =
 
 -- the polygon was drawn on b, its first point put on ys, and the walk from s to t went over it
 module _ {K : Type 0} (c : K → Point) (width : ℕ) (tol : ℕ → ℕ) (size : ℕ) (bs b xs ys xs' : List K) (ms ns ms' : List ℕ) (v : K) (s t : Stack K) (r : Result ℕ Fault) where
-  pub ran : (m : Meaning) → 2 ≤ size → size ≤ 17 → Drawable m size (length bs) → Laid c m bs b → length b ≡ length bs → v ≡ get_or b 0 v → ys ≡ set xs 0 v → ns ≡ set ms 0 0
+  pub ran : (m : Meaning) → 2 ≤ size → size ≤ 17 → Stackable m size (length bs) → Laid c m bs b → length b ≡ length bs → v ≡ get_or b 0 v → ys ≡ set xs 0 v → ns ≡ set ms 0 0
       → s.buffer.now ≡ b → s.size ≡ size → s.used ≡ size → Walk c (pieces (flat? width tol) 12 0 (map c (top_of s))) 12 1 s t r ys xs' ns ms'
       → Ran c width tol m r xs xs' ms ms'
   ran (fails f) l1 l2 d laid lb ev ex em eb es eu w = absurd d

@@ -48,10 +48,15 @@ abbrev pub decided : ℕ → (ℕ → ℕ) → Meaning → ℕ → ℕ → Resul
 decided width tol (fails f) points parameters = Err f
 decided width tol (holds h) points parameters = judged (flat_pieces width tol h.points) points parameters
 
--- Within: a source holds a polygon of so many points, and a buffer is long enough to draw it and to keep a stack of its pieces.
+-- Within: a source holds a polygon of so many points, and the working buffer is long enough.
 abbrev pub Drawable : Meaning → ℕ → ℕ → Type 0
-Drawable (fails f) size stack = ⊥
-Drawable (holds h) size stack = (length h.points ≡ size) × (h.reach ≤ stack) × (13 * size ≤ stack)
+Drawable (fails f) size working = ⊥
+Drawable (holds h) size working = (length h.points ≡ size) × (needed h ≤ working)
+
+-- The same of the part of the working buffer that a walk needs: it is long enough to draw the polygon and to keep a stack of its pieces.
+abbrev pub Stackable : Meaning → ℕ → ℕ → Type 0
+Stackable (fails f) size stack = ⊥
+Stackable (holds h) size stack = (length h.points ≡ size) × (h.reach ≤ stack) × (13 * size ≤ stack)
 
 -- the answer of a walk over the pieces of a source, and what it puts on a vertex buffer, as far as that is long
 abbrev pub walk_of : ℕ → (ℕ → ℕ) → Meaning → Result ℕ Fault

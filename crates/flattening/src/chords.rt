@@ -1,6 +1,6 @@
 ghost use Rattle.std.specs.Prelude.{◌≡◌, ◌≤◌, max, map, length, Ok};
 ghost use Rattle.sources.specs.Meaning.{survey_of};
-ghost use Rattle.flattening.specs.Flattening.{flatten_of, Freed, vertices_of, parameters_of, PutsFirst, decided, Drawable, walk_of, PutsSome};
+ghost use Rattle.flattening.specs.Flattening.{flatten_of, Freed, vertices_of, parameters_of, PutsFirst, decided, Stackable, walk_of, PutsSome};
 ghost use Rattle.flattening.specs.Chords.{ChordBound};
 
 use crate::stack::Stack;
@@ -22,7 +22,7 @@ fn walk_source<S: Source>(
     points: &mut [S::K],
     parameters: &mut [u16],
 ) -> Result<usize, Fault>
-    requires { (2 ≤ size) × (size ≤ 17) × Drawable (S.means source.now) size (length buffer.old) }
+    requires { (2 ≤ size) × (size ≤ 17) × Stackable (S.means source.now) size (length buffer.old) }
     ensures answer { result ≡ walk_of S.K.Kind.width (λ _. tolerance) (S.means source.now) }
     ensures points { PutsSome S.K.Kind.coord (vertices_of S.K.Kind.width (λ _. tolerance) (S.means source.now)) result points.old points.new }
     ensures parameters { PutsSome (λ t. t) (parameters_of S.K.Kind.width (λ _. tolerance) (S.means source.now)) result parameters.old parameters.new }

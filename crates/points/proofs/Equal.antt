@@ -39,9 +39,11 @@ planar-decides p q = (λ e. fun_ext (at (both _ _ e)), λ e. joined _ _ ((Decide
     at e (suc (suc a)) = refl
 
 pub sample-decides : (p q : Sample) → Decides (sample_eq p q) (sample p ≡ sample q)
-sample-decides p q =
-    (λ e. let h = both _ _ e in fun_ext (at h.0 (both _ _ h.1)), λ e.
-      joined _ _ ((Decides-int_eq p.x q.x).1 (ap (λ (f : Point). f 0) e)) (joined _ _ ((Decides-int_eq p.y q.y).1 (ap (λ (f : Point). f 1) e)) ((Decides-eqb (min p.press 4095) (min q.press 4095)).1 (natural (ap (λ (f : Point). f 2) e)))))
+sample-decides p q = (
+  λ e. let h = both _ _ e in fun_ext (at h.0 (both _ _ h.1)),
+  λ e.
+      joined _ _ ((Decides-int_eq p.x q.x).1 (ap (λ (f : Point). f 0) e)) (joined _ _ ((Decides-int_eq p.y q.y).1 (ap (λ (f : Point). f 1) e)) ((Decides-eqb (min p.press 4095) (min q.press 4095)).1 (natural (ap (λ (f : Point). f 2) e)))),
+)
   where
     natural : {a b : ℕ} → pos a ≡ pos b → a ≡ b
     natural e = ap Rattle.std.proofs.Common.unsigned_abs e
