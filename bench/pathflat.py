@@ -13,7 +13,7 @@ from files import Refused, encoded, opened, random_file
 from flattening import Bent, pieces
 from pathjob import ROOT, damaged
 
-PROGRAM = ROOT / "target" / "bin" / "pathflat"
+PROGRAM = ROOT / "crates" / "pathflat" / "out" / "pathflat"
 
 
 def millimetres(value):

@@ -14,7 +14,7 @@ from pathlib import Path
 from files import Refused, job, opened
 
 ROOT = Path(__file__).resolve().parent.parent
-PROGRAM = ROOT / "target" / "bin" / "pathjob"
+PROGRAM = ROOT / "crates" / "pathjob" / "out" / "pathjob"
 
 
 def shown(name):

@@ -16,7 +16,7 @@ from files import CODES, FIELDS, Refused, encoded, on_scale, random_file
 from pathjob import expected as job_output
 
 ROOT = Path(__file__).resolve().parent.parent
-BIN = ROOT / "target" / "bin"
+CRATES = ROOT / "crates"
 
 
 class Mistake(Exception):
@@ -176,7 +176,7 @@ def inputs():
 def main():
     tried = sound = wrong = 0
     for data in inputs():
-        run = subprocess.run([BIN / "pathnew"], input=data, capture_output=True)
+        run = subprocess.run([CRATES / "pathnew" / "out" / "pathnew"], input=data, capture_output=True)
         got, want = (run.stdout, run.stderr, run.returncode), expected(data)
         tried += 1
         if got != want:
@@ -184,7 +184,7 @@ def main():
             print(f"for {data[:300]!r}\n  got  {got}\n  want {want}")
         elif run.returncode == 0:
             sound += 1
-            job = subprocess.run([BIN / "pathjob"], input=run.stdout, capture_output=True)
+            job = subprocess.run([CRATES / "pathjob" / "out" / "pathjob"], input=run.stdout, capture_output=True)
             if (job.stdout.decode(), job.returncode) != job_output(run.stdout):
                 wrong += 1
                 print(f"the job differs for {data[:300]!r}")

@@ -10,6 +10,7 @@ use points::fault::Fault;
 use points::planar::Planar;
 use std::env;
 use std::io::Read;
+use std::process::ExitCode;
 use strokes::{Stroke, strokes};
 
 // The longest file, and one byte more, by which a longer input is told without being read to its end.
@@ -62,7 +63,7 @@ fn list_vertices(
     Ok(None)
 }
 
-fn main(rt: HostRuntime) -> anyhow::Result<()> {
+fn main(rt: HostRuntime) -> anyhow::Result<ExitCode> {
     let tolerance = tolerance(&rt)?;
     let mut file = Vec::new(rt.alloc());
     rt.stdin().take(LIMIT).read_to_end(&mut file)?;
@@ -71,12 +72,12 @@ fn main(rt: HostRuntime) -> anyhow::Result<()> {
         Err(f) => Some(f),
     };
     match refused {
-        None => Ok(()),
+        None => Ok(ExitCode::SUCCESS),
         Some(f) => {
             let number = f.refusal.number();
             let place = f.place;
             println!(rt; "refused {number} at {place}")?;
-            Err(anyhow!("refused"))
+            Ok(ExitCode::FAILURE)
         }
     }
 }

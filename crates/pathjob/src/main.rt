@@ -3,7 +3,6 @@
 
 mod listing;
 
-use anyhow::anyhow;
 use jobs::file::run_file;
 use listing::{list_job, list_refusal};
 use pathfiles::opened::Opened;
@@ -11,6 +10,7 @@ use pathfiles::opening::open;
 use points::fault::Fault;
 use points::planar::Planar;
 use std::io::Read;
+use std::process::ExitCode;
 
 // The longest file, and one byte more, by which a longer input is told without being read to its end.
 const LIMIT: u64 = 65536;
@@ -30,7 +30,7 @@ fn work(rt: &HostRuntime, path: &Opened<Planar>) -> anyhow::Result<Result<bool, 
     }
 }
 
-fn main(rt: HostRuntime) -> anyhow::Result<()> {
+fn main(rt: HostRuntime) -> anyhow::Result<ExitCode> {
     let mut file = Vec::new(rt.alloc());
     rt.stdin().take(LIMIT).read_to_end(&mut file)?;
     let outcome = match open::<Planar>(file.as_slice()) {
@@ -38,11 +38,11 @@ fn main(rt: HostRuntime) -> anyhow::Result<()> {
         Err(f) => Err(f),
     };
     match outcome {
-        Ok(true) => Ok(()),
-        Ok(false) => Err(anyhow!("a working was refused")),
+        Ok(true) => Ok(ExitCode::SUCCESS),
+        Ok(false) => Ok(ExitCode::FAILURE),
         Err(f) => {
             list_refusal(&rt, f)?;
-            Err(anyhow!("the file was refused"))
+            Ok(ExitCode::FAILURE)
         }
     }
 }

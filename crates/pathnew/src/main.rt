@@ -6,7 +6,6 @@ mod description;
 mod trouble;
 mod words;
 
-use anyhow::anyhow;
 use described::Described;
 use description::Description;
 use pathwriting::whole::write_file;
@@ -14,6 +13,7 @@ use points::height::Height;
 use points::planar::Planar;
 use points::sample::Sample;
 use std::io::{Read, Write};
+use std::process::ExitCode;
 use trouble::Trouble;
 
 // The longest description in bytes. One byte more is read, by which a longer one is told.
@@ -35,7 +35,7 @@ fn parted(line: &str) -> Option<(&str, &str)> {
 }
 
 // Tells a trouble on standard error, with the line where it lies.
-fn tell(rt: &HostRuntime, line: usize, trouble: Trouble) -> anyhow::Result<()> {
+fn tell(rt: &HostRuntime, line: usize, trouble: Trouble) -> anyhow::Result<ExitCode> {
     match trouble {
         Trouble::Text(what) => eprintln!(rt; "line {line}: {what}")?,
         Trouble::Refusal(f) => {
@@ -45,7 +45,7 @@ fn tell(rt: &HostRuntime, line: usize, trouble: Trouble) -> anyhow::Result<()> {
         }
         Trouble::Memory => eprintln!(rt; "no memory")?,
     }
-    Err(anyhow!("no file"))
+    Ok(ExitCode::FAILURE)
 }
 
 fn file_of<K: Described>(
@@ -68,7 +68,11 @@ fn file_of<K: Described>(
 }
 
 // Reads the lines after the kind, and writes the file.
-fn write_described<K: Described>(rt: &HostRuntime, text: &str, first: usize) -> anyhow::Result<()> {
+fn write_described<K: Described>(
+    rt: &HostRuntime,
+    text: &str,
+    first: usize,
+) -> anyhow::Result<ExitCode> {
     let heap = rt.alloc();
     let mut description: Description<K> = Description::new(heap);
     let mut number = 0usize;
@@ -87,7 +91,7 @@ fn write_described<K: Described>(rt: &HostRuntime, text: &str, first: usize) -> 
     match file_of(&description, &mut buffer) {
         Ok(n) => {
             rt.stdout().write_all(buffer.get(0..n).unwrap_or(&[]))?;
-            Ok(())
+            Ok(ExitCode::SUCCESS)
         }
         Err(t) => tell(rt, number, t),
     }
@@ -99,7 +103,7 @@ fn write_kind(
     line: usize,
     word: &str,
     kind: &str,
-) -> anyhow::Result<()> {
+) -> anyhow::Result<ExitCode> {
     match (word, kind) {
         ("kind", "height") => write_described::<Height>(rt, text, line),
         ("kind", "planar") => write_described::<Planar>(rt, text, line),
@@ -112,7 +116,7 @@ fn write_kind(
     }
 }
 
-fn main(rt: HostRuntime) -> anyhow::Result<()> {
+fn main(rt: HostRuntime) -> anyhow::Result<ExitCode> {
     let mut bytes = Vec::new(rt.alloc());
     rt.stdin().take(65_536).read_to_end(&mut bytes)?;
     if bytes.len() > LONGEST_TEXT {
