@@ -1,5 +1,5 @@
 -- Flattening, from what survey tells and what the two walks do.
-use Rattle.std.proofs.Common.{◌≡◌, ℕ, ◌+◌, ◌-◌, ◌<◌, ◌≤◌, max, Bool, true, false, cond, ◌||◌, ltb, ◌⊎◌, List, [], ◌∷◌, ◌++◌, map, length, get_or, take, drop, set, Ok, Err, Result, sym, refl, ap, ◌∙◌, subst, ⊎_elim, zero-add, arith}
+use Rattle.std.proofs.Common.{◌≡◌, ℕ, ◌+◌, ◌-◌, ◌*◌, ◌<◌, ◌≤◌, max, Bool, true, false, cond, ◌||◌, ltb, ◌⊎◌, List, [], ◌∷◌, ◌++◌, map, length, get_or, take, drop, set, Ok, Err, Result, sym, refl, ap, ◌∙◌, subst, ⊎_elim, zero-add, arith}
 use Rattle.std.proofs.lemmas.Bool.{le-ltb, lt-ltb, or_from}
 use Rattle.std.proofs.lemmas.List.{length-map, length-take-le, take-map, take_at, drop_at, take-append-drop, map-append, map-id, get_or-take}
 use Rattle.std.proofs.lemmas.List.Edits.{sets-eq}
@@ -9,6 +9,7 @@ use Rattle.points.specs.Refusals.{refuse}
 use Rattle.points.specs.Points.{Point, origin}
 use Rattle.polygons.proofs.Writes.{read_is}
 use Rattle.workings.specs.declared.survey.Survey.{Survey}
+use Rattle.sources.proofs.Meanings.{drop-further}
 use Rattle.sources.specs.Meaning.{Meaning, fails, holds, Held, Sound, told, survey_of, Laid}
 use Rattle.flattening.specs.declared.stack.Stack.{Stack}
 use Rattle.flattening.specs.Pieces.{Piece, end_of, Outcome, bent, kept, pieces, WhenKept}
@@ -16,7 +17,7 @@ use Rattle.flattening.specs.Flat.{flat?, flat_pieces}
 use Rattle.flattening.specs.Vertices.{first_of, last_of, vertices, parameters}
 use Rattle.flattening.specs.Stacks.{top_of}
 use Rattle.flattening.specs.Walks.{counted, PutFrom}
-use Rattle.flattening.specs.Flattening.{needed, judged, flatten_of, decided, Freed, vertices_of, parameters_of, PutsFirst, Stackable, walk_of, PutsSome}
+use Rattle.flattening.specs.Flattening.{needed, judged, flatten_of, decided, Freed, vertices_of, parameters_of, PutsFirst, Drawable, Stackable, PastNeeded, walk_of, PutsSome}
 use Rattle.flattening.specs.Chords.{ChordBound}
 use Rattle.flattening.proofs.Puts.{put_one, put-more}
 use Rattle.flattening.proofs.Walks.{Walk, kept_from, bent-from}
@@ -28,9 +29,25 @@ clash s f q = let z : ◌≡◌ {A = ℕ} 0 1 = cc in absurd (omega arith)
 told_is : (s : Survey) (h : Held) → Ok s ≡ survey_of (holds h) → (s.degree ≡ length h.points - 1) × (s.reach ≡ h.reach)
 told_is s h t = let k : s ≡ told h = cc in (ap (λ v. v.degree) k, ap (λ v. v.reach) k)
 
--- what a walk over a source is known for: its answer r, the vertex points from xs to xs' and their parameters from ms to ms'
-pub record Ran {K : Type 0} (c : K → Point) (width : ℕ) (tol : ℕ → ℕ) (m : Meaning) (r : Result ℕ Fault) (xs xs' : List K) (ms ms' : List ℕ) : Type 0 where
+-- a source that was surveyed can be walked on a buffer that is long enough
+pub drawable : (m : Meaning) (s : Survey) (w : ℕ) → Sound m → Ok s ≡ survey_of m → max s.reach 221 ≤ w → (2 ≤ s.degree + 1) × (s.degree + 1 ≤ 17) × Drawable m (s.degree + 1) w
+drawable (fails f) s w d t l = clash s f t
+drawable (holds h) s w d t l = let k = told_is s h t in (omega arith, omega arith, (omega arith, omega arith))
+
+-- such a buffer is long enough to draw on and for the stack
+pub stackable : (m : Meaning) (size w : ℕ) → size ≤ 17 → Drawable m size w → Stackable m size w
+stackable (fails f) size w l d = absurd d
+stackable (holds h) size w l d = (d.0, omega arith, omega arith)
+
+-- what was walked on it is freed
+pub freed : {K : Type 0} (m : Meaning) (size : ℕ) (bs bs' : List K) → Drawable m size (length bs) → PastNeeded m bs bs' → Freed m bs bs'
+freed (fails f) size bs bs' d p = absurd d
+freed (holds h) size bs bs' d p = ((λ (l : length bs < needed h). absurd (omega arith)), p)
+
+-- What a walk over a source is known for: its answer r, the buffer from bs to bs', the vertex points from xs to xs' and their parameters from ms to ms'.
+pub record Ran {K : Type 0} (c : K → Point) (width : ℕ) (tol : ℕ → ℕ) (m : Meaning) (r : Result ℕ Fault) (bs bs' xs xs' : List K) (ms ms' : List ℕ) : Type 0 where
   pub answer : r ≡ walk_of width tol m
+  pub past : PastNeeded m bs bs'
   pub points : PutsSome c (vertices_of width tol m) r xs xs'
   pub parameters : PutsSome (λ t. t) (parameters_of width tol m) r ms ms'
 
@@ -45,7 +62,7 @@ put_some c (kept ps) r first f ys xs mid xs' eb ek e p q =
 module _ {K : Type 0} (c : K → Point) (width : ℕ) (tol : ℕ → ℕ) (size : ℕ) (bs b xs ys xs' : List K) (ms ns ms' : List ℕ) (v : K) (s t : Stack K) (r : Result ℕ Fault) where
   pub ran : (m : Meaning) → 2 ≤ size → size ≤ 17 → Stackable m size (length bs) → Laid c m bs b → length b ≡ length bs → v ≡ get_or b 0 v → ys ≡ set xs 0 v → ns ≡ set ms 0 0
       → s.buffer.now ≡ b → s.size ≡ size → s.used ≡ size → Walk c (pieces (flat? width tol) 12 0 (map c (top_of s))) 12 1 s t r ys xs' ns ms'
-      → Ran c width tol m r xs xs' ms ms'
+      → Ran c width tol m r bs t.buffer.now xs xs' ms ms'
   ran (fails f) l1 l2 d laid lb ev ex em eb es eu w = absurd d
   ran (holds h) l1 l2 d laid lb ev ex em eb es eu w =
       let o : Outcome = flat_pieces width tol h.points in
@@ -55,11 +72,19 @@ module _ {K : Type 0} (c : K → Point) (width : ℕ) (tol : ℕ → ℕ) (size 
       let top : map c (top_of s) ≡ h.points = ap (λ n. map c (drop n (take s.used s.buffer.now))) zero_left ∙ ap (λ n. map c (take n s.buffer.now)) eu ∙ ap (λ z. map c (take size z)) eb ∙ held in
       let k = subst (λ ps. Walk c (pieces (flat? width tol) 12 0 ps) 12 1 s t r ys xs' ns ms') top w in
       let first : c v ≡ first_of h.points = read_is c b 0 v (omega arith) ev ∙ sym (get_or-take size (map c b) 0 origin (omega arith)) ∙ ap first_of (take-map c size b ∙ held) in
+      let past : drop (needed h) t.buffer.now ≡ drop (needed h) bs = drop-further t.buffer.now s.buffer.now (s.used + 12 * s.size) (needed h) (omega arith) k.stack.above ∙ ap (drop (needed h)) eb ∙ drop-further b bs h.reach (needed h) (omega arith) low.1 in
       record {
         answer = k.answer;
+        past = past;
         points = put_some c o r (first_of h.points) (λ x. last_of x.points) (vertices h.points) xs ys xs' (λ _. refl) (λ _. refl) k.answer (put_one c 0 (first_of h.points) v xs ys ex first) k.points;
         parameters = put_some (λ t. t) o r 0 end_of parameters ms ns ms' (λ _. refl) (λ _. refl) k.answer (put_one (λ t. t) 0 0 0 ms ns em refl) k.parameters;
       }
+
+-- what a walk puts
+pub record Putting {K : Type 0} (c : K → Point) (width : ℕ) (tol : ℕ → ℕ) (m : Meaning) (r : Result ℕ Fault) (xs xs' : List K) (ms ms' : List ℕ) : Type 0 where
+  pub answer : r ≡ walk_of width tol m
+  pub points : PutsSome c (vertices_of width tol m) r xs xs'
+  pub parameters : PutsSome (λ t. t) (parameters_of width tol m) r ms ms'
 
 -- values that were put on a buffer that is long enough
 puts-all : {X Y : Type 0} (c : X → Y) (ys : List Y) (n : ℕ) (xs xs' : List X) → length ys ≡ n → n ≤ length xs → PutFrom c 0 ys xs xs' → PutsFirst c ys (Ok n) xs xs'
@@ -136,7 +161,7 @@ module _ {K : Type 0} (c : K → Point) (width : ℕ) (tol : ℕ → ℕ) (s : S
     fits o e lx lm = sym (judges o e ∙ ap (λ b. cond b (Err (refuse Short n)) (Ok n)) (or_from (ltb (length xs) n) (ltb (length ms) n) (le-ltb (length xs) n lx) (le-ltb (length ms) n lm)))
 
     -- both are long enough, and the vertices that waited were copied
-    pub within-copied : (m : Meaning) (ws ws' xs' : List K) (ns ns' ms' : List ℕ) → Ok s ≡ survey_of m → n ≤ length xs → n ≤ length ms → n ≤ length ws → n ≤ length ns → n ≤ length ws' → n ≤ length ns' → Ran c width tol m (Ok n) ws ws' ns ns' → xs' ≡ take n ws' ++ drop n xs → ms' ≡ take n ns' ++ drop n ms → Within c width tol m (Ok n) xs xs' ms ms'
+    pub within-copied : (m : Meaning) (ws ws' xs' : List K) (ns ns' ms' : List ℕ) → Ok s ≡ survey_of m → n ≤ length xs → n ≤ length ms → n ≤ length ws → n ≤ length ns → n ≤ length ws' → n ≤ length ns' → Putting c width tol m (Ok n) ws ws' ns ns' → xs' ≡ take n ws' ++ drop n xs → ms' ≡ take n ns' ++ drop n ms → Within c width tol m (Ok n) xs xs' ms ms'
     within-copied (fails g) ws ws' xs' ns ns' ms' t lx lm lw ln lw' ln' w ex em = clash s g t
     within-copied (holds h) ws ws' xs' ns ns' ms' t lx lm lw ln lw' ln' w ex em =
         let l = many h w.answer in
@@ -147,11 +172,11 @@ module _ {K : Type 0} (c : K → Point) (width : ℕ) (tol : ℕ → ℕ) (s : S
         }
 
     -- both are long enough, and were walked onto
-    pub within-walked : (m : Meaning) (r : Result ℕ Fault) (xs' : List K) (ms' : List ℕ) → Ok s ≡ survey_of m → n ≤ length xs → n ≤ length ms → Ok n ≡ walk_of width tol m → Ran c width tol m r xs xs' ms ms' → Within c width tol m r xs xs' ms ms'
+    pub within-walked : (m : Meaning) (r : Result ℕ Fault) (xs' : List K) (ms' : List ℕ) → Ok s ≡ survey_of m → n ≤ length xs → n ≤ length ms → Ok n ≡ walk_of width tol m → Putting c width tol m r xs xs' ms ms' → Within c width tol m r xs xs' ms ms'
     within-walked (fails g) r xs' ms' t lx lm e w = clash s g t
     within-walked (holds h) r xs' ms' t lx lm e w₁ =
         let q : r ≡ Ok n = w₁.answer ∙ sym e in
-        let w = subst (λ r. Ran c width tol (holds h) r xs xs' ms ms') q w₁ in
+        let w = subst (λ r. Putting c width tol (holds h) r xs xs' ms ms') q w₁ in
         let l = many h e in
         subst (λ r. Within c width tol (holds h) r xs xs' ms ms') (sym q) (record {
           answer = fits (flat_pieces width tol h.points) e lx lm;

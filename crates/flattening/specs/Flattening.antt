@@ -53,10 +53,15 @@ abbrev pub Drawable : Meaning → ℕ → ℕ → Type 0
 Drawable (fails f) size working = ⊥
 Drawable (holds h) size working = (length h.points ≡ size) × (needed h ≤ working)
 
--- The same of the part of the working buffer that a walk needs: it is long enough to draw the polygon and to keep a stack of its pieces.
+-- The same of the part of it that a walk needs: it is long enough to draw the polygon and to keep a stack of its pieces.
 abbrev pub Stackable : Meaning → ℕ → ℕ → Type 0
 Stackable (fails f) size stack = ⊥
 Stackable (holds h) size stack = (length h.points ≡ size) × (h.reach ≤ stack) × (13 * size ≤ stack)
+
+-- past the places needed a buffer is as found
+abbrev pub PastNeeded : {X : Type 0} → Meaning → List X → List X → Type 0
+PastNeeded (fails f) before after = Unit {0}
+PastNeeded (holds h) before after = drop (needed h) after ≡ drop (needed h) before
 
 -- the answer of a walk over the pieces of a source, and what it puts on a vertex buffer, as far as that is long
 abbrev pub walk_of : ℕ → (ℕ → ℕ) → Meaning → Result ℕ Fault

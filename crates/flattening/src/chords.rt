@@ -1,6 +1,6 @@
 ghost use Rattle.std.specs.Prelude.{◌≡◌, ◌≤◌, max, map, length, Ok};
 ghost use Rattle.sources.specs.Meaning.{survey_of};
-ghost use Rattle.flattening.specs.Flattening.{flatten_of, Freed, vertices_of, parameters_of, PutsFirst, decided, Stackable, walk_of, PutsSome};
+ghost use Rattle.flattening.specs.Flattening.{flatten_of, Freed, vertices_of, parameters_of, PutsFirst, decided, Drawable, Stackable, PastNeeded, walk_of, PutsSome};
 ghost use Rattle.flattening.specs.Chords.{ChordBound};
 
 use crate::stack::Stack;
@@ -14,7 +14,7 @@ use workings::survey::Survey;
 const WAITING: usize = 195;
 
 // Draws the polygon of so many points onto a buffer and walks its pieces, on a stack there. The vertices are put on their buffers as far as these are long.
-fn walk_source<S: Source>(
+fn draw_and_walk<S: Source>(
     source: &S,
     size: usize,
     tolerance: u16,
@@ -24,6 +24,7 @@ fn walk_source<S: Source>(
 ) -> Result<usize, Fault>
     requires { (2 ≤ size) × (size ≤ 17) × Stackable (S.means source.now) size (length buffer.old) }
     ensures answer { result ≡ walk_of S.K.Kind.width (λ _. tolerance) (S.means source.now) }
+    ensures past { PastNeeded (S.means source.now) buffer.old buffer.new }
     ensures points { PutsSome S.K.Kind.coord (vertices_of S.K.Kind.width (λ _. tolerance) (S.means source.now)) result points.old points.new }
     ensures parameters { PutsSome (λ t. t) (parameters_of S.K.Kind.width (λ _. tolerance) (S.means source.now)) result parameters.old parameters.new }
 {
@@ -36,6 +37,24 @@ fn walk_source<S: Source>(
         used: size,
     };
     walk(&mut stack, tolerance, 12, 0, points, parameters, 1)
+}
+
+// The same on the working buffer.
+fn walk_source<S: Source>(
+    source: &S,
+    size: usize,
+    tolerance: u16,
+    working: &mut [S::K],
+    points: &mut [S::K],
+    parameters: &mut [u16],
+) -> Result<usize, Fault>
+    requires { (2 ≤ size) × (size ≤ 17) × Drawable (S.means source.now) size (length working.old) }
+    ensures answer { result ≡ walk_of S.K.Kind.width (λ _. tolerance) (S.means source.now) }
+    ensures working { Freed (S.means source.now) working.old working.new }
+    ensures points { PutsSome S.K.Kind.coord (vertices_of S.K.Kind.width (λ _. tolerance) (S.means source.now)) result points.old points.new }
+    ensures parameters { PutsSome (λ t. t) (parameters_of S.K.Kind.width (λ _. tolerance) (S.means source.now)) result parameters.old parameters.new }
+{
+    draw_and_walk(source, size, tolerance, working, points, parameters)
 }
 
 // Flattens a source that was surveyed, on the places that are needed.
@@ -56,7 +75,7 @@ fn flatten_within<S: Source>(
     let size = survey.degree + 1;
     let (stack, waiting) = places.split_at_mut(survey.reach.max(13 * size));
     let mut marks = [0u16; WAITING];
-    let count = walk_source(source, size, tolerance, stack, waiting, &mut marks)?;
+    let count = draw_and_walk(source, size, tolerance, stack, waiting, &mut marks)?;
     if points.len() < count || parameters.len() < count {
         return Err(Fault::new(Refusal::Short, count));
     }
@@ -65,7 +84,7 @@ fn flatten_within<S: Source>(
         put_all(parameters, &marks, count);
         return Ok(count);
     }
-    walk_source(source, size, tolerance, stack, points, parameters)
+    walk_source(source, size, tolerance, places, points, parameters)
 }
 
 // Flattens a source: its polygon is halved until every piece is flat to the tolerance. The vertices, the first piece's start and every piece's end, are written with their

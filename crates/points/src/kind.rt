@@ -30,7 +30,7 @@ pub trait Kind: Copy {
 
 // Whether two points have the same axis values.
 pub fn same<K: Kind>(p: &K, q: &K) -> bool
-    ensures { Same (K.Kind.coord p.now) (K.Kind.coord q.now) result }
+    ensures { Same (K.coord p.now) (K.coord q.now) result }
 {
     for a in 0..K::axes() {
         if p.axis(a) != q.axis(a) {

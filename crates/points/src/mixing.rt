@@ -13,7 +13,7 @@ fn leaning(p: i32, q: i32, w: Weight) -> i64
 }
 
 // The sum that is divided, 2·w·(q − p) + d, shifted up by 2^32 times the divisor 2·d, so that it is not negative.
-fn shifted(lean: i64, w: Weight) -> u64
+fn shifted_up(lean: i64, w: Weight) -> u64
     requires { (up lean ≤ 8589934590 * w.den) × (down lean ≤ 8589934590 * w.den) }
     ensures { pos result ≡ lean +ℤ pos (w.den + 4294967296 * (2 * w.den)) }
 {
@@ -29,7 +29,7 @@ fn divided(sum: u64, w: Weight) -> u64
 }
 
 // The quotient counted from p, and shifted back.
-fn shifted_back(p: i32, quotient: u64) -> i32
+fn shifted_down(p: i32, quotient: u64) -> i32
     requires { (down p + 2147483648 ≤ up p + quotient) × (up p + quotient < down p + 6442450944) }
     ensures { result +ℤ pos 4294967296 ≡ p +ℤ pos quotient }
 {
@@ -41,5 +41,5 @@ fn shifted_back(p: i32, quotient: u64) -> i32
 pub fn mix_axis(p: i32, q: i32, w: Weight) -> i32
     ensures { result ≡ mixed w.num w.den p q }
 {
-    shifted_back(p, divided(shifted(leaning(p, q, w), w), w))
+    shifted_down(p, divided(shifted_up(leaning(p, q, w), w), w))
 }

@@ -1,10 +1,10 @@
-use Rattle.std.proofs.Common.{refl}
-use Rattle.flattening.proofs.Flattening.{ran}
+use Rattle.flattening.proofs.Flattening.{stackable, freed}
 use Rattle.flattening.proofs.chords.walk_source.Goals as goal
+
+pub draw_and_walk-requires : goal.draw_and_walk-requires
+draw_and_walk-requires g c = (c.requires.0, c.requires.1, stackable (g.S.Source.means c.args.source.now) c.args.size _ c.requires.1 c.requires.2)
 
 pub returns : goal.returns
 returns g c =
-    let m = g.S.Source.means c.args.source.now in
-    let w = c.walk.ensures in
-    let r = ran g.S.K.Kind.coord g.S.K.Kind.width (λ _. c.args.tolerance) c.args.size c.args.buffer.now c.draw.new.buffer c.args.points.now c.put.new.buffer c.walk.new.points c.args.parameters.now c.put-2.new.buffer c.walk.new.parameters c.index-buffer-0.result _ c.walk.new.stack c.walk.result m c.requires.0 c.requires.1 c.requires.2 c.draw.ensures.laid c.draw.auto.buffer c.index-buffer-0.is c.put.ensures c.put-2.ensures refl refl refl (record { answer = w.answer; stack = w.stack; points = w.points; parameters = w.parameters }) in
-    record { answer = r.answer; points = r.points; parameters = r.parameters }
+    let r = c.draw_and_walk.ensures in
+    record { answer = r.answer; working = freed (g.S.Source.means c.args.source.now) c.args.size c.args.working.now c.draw_and_walk.new.buffer c.requires.2 r.past; points = r.points; parameters = r.parameters }

@@ -9,8 +9,8 @@ use Rattle.points.proofs.mixing.mix_axis.Goals as goal
 on-axis : (z : ℤ) → SFits w32 z → OnAxis z
 on-axis z f = (omega (arith, ints), omega (arith, ints))
 
-pub shifted-requires : goal.shifted-requires
-shifted-requires c =
+pub shifted_up-requires : goal.shifted_up-requires
+shifted_up-requires c =
     let f : SFits w64 c.leaning.result = search rules in
     (simp to_z-of_z c.leaning.ensures.1, simp to_z-of_z c.leaning.ensures.2)
 
@@ -21,12 +21,12 @@ quotient w p q l s z fp fq fl el es ez = mixed-raised w.num w.den s p q l w.weig
 bounds : (m p : ℤ) (z : ℕ) → OnAxis m → m +ℤ pos 4294967296 ≡ p +ℤ pos z → (down p + 2147483648 ≤ up p + z) × (up p + z ≤ down p + 6442450943)
 bounds m p z l e = (omega (arith, same_out _ _ e, sum_is_lem m (pos 4294967296), sum_is_lem p (pos z)), omega (arith, same_out _ _ e, sum_is_lem m (pos 4294967296), sum_is_lem p (pos z)))
 
-pub shifted_back-requires : goal.shifted_back-requires
-shifted_back-requires c =
+pub shifted_down-requires : goal.shifted_down-requires
+shifted_down-requires c =
     let w = c.args.w in
     let fp = c.ranges.p in
     let on = mixed-on-axis w.num w.den c.args.p c.args.q w.weighs.0 w.weighs.2 (on-axis c.args.p fp) (on-axis c.args.q c.ranges.q) in
-    let b = bounds _ c.args.p c.divided.result on (quotient c.args.w c.args.p c.args.q c.leaning.result c.shifted.result c.divided.result c.ranges.p c.ranges.q (search rules) c.leaning.ensures.0 c.shifted.ensures c.divided.ensures) in
+    let b = bounds _ c.args.p c.divided.result on (quotient c.args.w c.args.p c.args.q c.leaning.result c.shifted_up.result c.divided.result c.ranges.p c.ranges.q (search rules) c.leaning.ensures.0 c.shifted_up.ensures c.divided.ensures) in
     (simp to_z-of_z b.0, simp to_z-of_z (omega (arith, b.1)))
 
 same : (r m p : ℤ) (z : ℕ) → r +ℤ pos 4294967296 ≡ p +ℤ pos z → m +ℤ pos 4294967296 ≡ p +ℤ pos z → r ≡ m
@@ -35,6 +35,6 @@ same r m p z e f = same_in _ _ (omega (arith, same_out _ _ (e ∙ sym f), sum_is
 pub returns : goal.returns
 returns c =
     let fp = c.ranges.p in
-    let fr : SFits w32 c.shifted_back.result = search rules in
-    let e : c.shifted_back.result +ℤ pos 4294967296 ≡ c.args.p +ℤ pos c.divided.result = simp to_z-of_z at c.shifted_back.ensures in
-    to_z-of_z w32 _ fr ∙ same c.shifted_back.result _ c.args.p c.divided.result e (quotient c.args.w c.args.p c.args.q c.leaning.result c.shifted.result c.divided.result c.ranges.p c.ranges.q (search rules) c.leaning.ensures.0 c.shifted.ensures c.divided.ensures)
+    let fr : SFits w32 c.shifted_down.result = search rules in
+    let e : c.shifted_down.result +ℤ pos 4294967296 ≡ c.args.p +ℤ pos c.divided.result = simp to_z-of_z at c.shifted_down.ensures in
+    to_z-of_z w32 _ fr ∙ same c.shifted_down.result _ c.args.p c.divided.result e (quotient c.args.w c.args.p c.args.q c.leaning.result c.shifted_up.result c.divided.result c.ranges.p c.ranges.q (search rules) c.leaning.ensures.0 c.shifted_up.ensures c.divided.ensures)
