@@ -1,5 +1,5 @@
 -- Rounded mixing: its error is at most one half, it keeps equal points, and it is monotone, so it stays between its points.
-use Rattle.std.proofs.Common.{◌≡◌, ℕ, ◌+◌, ◌-◌, ◌*◌, ◌/◌, ◌<◌, ◌≤◌, ℤ, pos, negsuc, ◌+ℤ◌, ◌*ℤ◌, ◌≤ℤ◌, ◌<ℤ◌, sym, ap, ◌∙◌, subst, mod-lt, arith}
+use Rattle.std.proofs.Common.{◌≡◌, ℕ, ◌+◌, ◌-◌, ◌*◌, ◌<◌, ◌≤◌, ℤ, pos, negsuc, ◌+ℤ◌, ◌*ℤ◌, ◌≤ℤ◌, ◌<ℤ◌, sym, ap, ◌∙◌, subst, mod-lt, arith}
 use native.Mathlib.Nat.{div-add-mod}
 use borrow.Author.Differences.{ints}
 use Rattle.exact.specs.Mixing.{floor_div, blend, mix}

@@ -3,7 +3,7 @@ use Rattle.std.proofs.Common.{◌≡◌, ℕ, zero, suc, ◌+◌, ◌-◌, ◌*�
 use native.Mathlib.Nat.{pow-zero}
 use native.Mathlib.Decide.{dec_le, dec_lt}
 use borrow.Author.Differences.{ints}
-use Rattle.exact.specs.Mixing.{blend, mix}
+use Rattle.exact.specs.Mixing.{blend}
 use Rattle.exact.specs.Polygon.{level_at}
 use Rattle.exact.proofs.Ring.{ring, gap, gap-*, gap-sum, gap-triangle, *ℤ-assoc}
 use Rattle.exact.proofs.Curve.{left_x, right_x, raise_x, turn_x}

@@ -1,5 +1,5 @@
 -- Pieces by halving.
-use Rattle.std.proofs.Common.{◌≡◌, ℕ, suc, ◌+◌, ◌*◌, ◌^◌, ◌≤◌, List, ℤ, pos, ◌+ℤ◌, ◌*ℤ◌, sym, refl, ap, ◌∙◌, subst₂, pow-suc, arith, lit≤}
+use Rattle.std.proofs.Common.{◌≡◌, ℕ, suc, ◌+◌, ◌*◌, ◌^◌, List, ℤ, pos, ◌+ℤ◌, ◌*ℤ◌, sym, refl, ap, ◌∙◌, subst₂, pow-suc, arith, lit≤}
 use mathlib.Core.Path.{fun_ext}
 use Rattle.exact.specs.Mixing.{mix}
 use Rattle.exact.specs.Polygon.{left, right}

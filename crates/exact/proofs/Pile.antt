@@ -4,7 +4,7 @@ use native.Mathlib.Nat.{pow-zero, one-le-pow}
 use native.Mathlib.Decide.{dec_lt}
 use Rattle.std.proofs.lemmas.List.{get_or-reverse, length-reverse}
 use Rattle.exact.specs.Mixing.{blend, mix}
-use Rattle.exact.specs.Polygon.{level_at, level, levels, degree, left, right, raise, turn, IsPoint}
+use Rattle.exact.specs.Polygon.{level_at, levels, degree, left, right, raise, turn, IsPoint}
 use Rattle.exact.specs.Fractions.{Fraction, WithinHalf}
 use Rattle.exact.specs.Curve.{control, exact}
 use Rattle.exact.specs.Workings.{Param, parts, InRange, Valid, AllValid, mix_by, fraction, Working, left_at, right_at, raised, turned, worked, charge, next_degree, pile, degree_over, allowance_over, carried}

@@ -1,5 +1,5 @@
 -- A fraction and its equals have the same values.
-use Rattle.std.proofs.Common.{◌≡◌, ℕ, ◌*◌, ◌<◌, ◌≤◌, ℤ, pos, ◌*ℤ◌, ◌≤ℤ◌, sym, ap, ◌∙◌, subst}
+use Rattle.std.proofs.Common.{◌≡◌, ℕ, ◌<◌, ℤ, pos, ◌*ℤ◌, ◌≤ℤ◌, sym, ap, ◌∙◌, subst}
 use lib.Signed.{≤ℤ_refl}
 use Rattle.exact.specs.Fractions.{Fraction, ◌≈◌}
 use Rattle.exact.proofs.Ring.{ring, *ℤ-cancel, ≤ℤ-antisym}

@@ -20,7 +20,7 @@ use Rattle.sources.specs.Meaning.{Meaning, fails, holds, Held}
 use Rattle.sources.specs.Piles.{piled}
 use Rattle.sources.specs.Accuracy.{Drawing, along, Stands}
 use Rattle.sources.proofs.Piling.{Over, over, over-some, over-fault}
-use Rattle.flattening.specs.Pieces.{Piece, end_of, kept, pieces, WhenKept}
+use Rattle.flattening.specs.Pieces.{Piece, end_of, kept, WhenKept}
 use Rattle.flattening.specs.Flat.{flat?, flat_pieces}
 use Rattle.flattening.specs.Vertices.{first_of, last_of, ends, marks}
 use Rattle.flattening.specs.Chords.{piece_allowance, Chord, Chords}

@@ -15,7 +15,7 @@ use Rattle.flattening.specs.Pieces.{left_half, right_half, Piece, pieces, WhenKe
 use Rattle.flattening.specs.Flat.{flat?}
 use Rattle.flattening.specs.Vertices.{first_of, last_of}
 use Rattle.flattening.proofs.Halves.{length-left, length-right, left-first, right-last, halves-meet}
-use Rattle.flattening.proofs.Pieces.{when-kept, piece, pieces-all}
+use Rattle.flattening.proofs.Pieces.{when-kept, pieces-all}
 use Rattle.flattening.proofs.Flats.{none-off}
 
 along-left : (a : ℕ) (ps : List Point) → along a (left_half ps) ≡ left (mix 1 2) (along a ps)

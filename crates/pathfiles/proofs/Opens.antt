@@ -6,7 +6,7 @@ use Rattle.points.specs.Refusals.{refuse}
 use Rattle.points.specs.declared.fault.Fault.{Fault}
 use Rattle.points.specs.declared.fault.Refusal.TheVariants.{Tail, Overlong}
 use Rattle.pathformat.specs.declared.kind.FileKind.{FileKind}
-use Rattle.pathformat.specs.Reading.{took, bad, fault, after, values}
+use Rattle.pathformat.specs.Reading.{took, bad, fault, values}
 use Rattle.pathformat.specs.Writing.{Bytes}
 use Rattle.pathformat.specs.File.{File, head_at, name_at, point_at, working_at, points_at, workings_at, sections, ended, decode, encode}
 use Rattle.pathformat.proofs.Fields.{at_after}

@@ -2,7 +2,7 @@
 use Rattle.std.proofs.Common.{◌≡◌, ℕ, ◌+◌, ◌-◌, ◌<◌, ◌≤◌, false, cond, ltb, List, ◌++◌, map, length, get_or, take, drop, Ok, Err, sym, refl, ap, ◌∙◌, sub-one, arith}
 use Rattle.std.proofs.lemmas.Bool.{le-ltb}
 use Rattle.std.proofs.lemmas.List.{length-append, length-take-le, take-map, get_or-take}
-use Rattle.exact.specs.Polygon.{degree, right}
+use Rattle.exact.specs.Polygon.{degree}
 use Rattle.exact.proofs.Lists.{length-lasts, get_or-levels}
 use Rattle.points.specs.declared.fault.Refusal.TheVariants.{OffScale, Short}
 use Rattle.points.specs.declared.parameter.Parameter.{Parameter}

@@ -2,7 +2,6 @@
 use Rattle.std.proofs.Common.{◌≡◌, ℕ, ◌+◌, ◌-◌, ◌≤◌, false, cond, ltb, List, ◌++◌, map, length, take, drop, Ok, Err, Result, sym, refl, ap, ◌∙◌, arith}
 use Rattle.std.proofs.lemmas.List.{length-map, length-take-le, take_all, take_at, drop_at, length-reverse}
 use Rattle.std.proofs.lemmas.Bool.{or_from, le-ltb}
-use Rattle.exact.specs.Polygon.{degree}
 use Rattle.exact.specs.Workings as exact
 use Rattle.exact.proofs.Lists.{length-firsts, length-lasts, length-raise}
 use Rattle.points.specs.declared.fault.Fault.{Fault}
