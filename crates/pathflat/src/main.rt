@@ -2,7 +2,6 @@
 // the parameter times 4,096, and x and y in mm as the stylus gets them.
 #![tactic(auto)]
 
-use anyhow::anyhow;
 use flattening::chords::flatten;
 use pathfiles::opened::Opened;
 use pathfiles::opening::open;
@@ -21,13 +20,14 @@ const ORIGIN: Planar = Planar { x: 0, y: 0 };
 // The most vertices that a flattening can have.
 const MOST: usize = 4097;
 
-fn tolerance(rt: &HostRuntime) -> anyhow::Result<u16> {
+// The first argument, if it is a number of 16 bits.
+fn tolerance(rt: &HostRuntime) -> anyhow::Result<Option<u16>> {
     let mut args = env::args(rt)?;
     let _ = args.next();
-    match args.next() {
-        Some(word) => Ok(word.as_str().parse::<u16>()?),
-        None => Err(anyhow!("no tolerance")),
-    }
+    let Some(word) = args.next() else {
+        return Ok(None);
+    };
+    Ok(word.as_str().parse::<u16>().ok())
 }
 
 fn list_vertices(
@@ -64,7 +64,9 @@ fn list_vertices(
 }
 
 fn main(rt: HostRuntime) -> anyhow::Result<ExitCode> {
-    let tolerance = tolerance(&rt)?;
+    let Some(tolerance) = tolerance(&rt)? else {
+        return Ok(ExitCode::FAILURE);
+    };
     let mut file = Vec::new(rt.alloc());
     rt.stdin().take(LIMIT).read_to_end(&mut file)?;
     let refused = match open::<Planar>(file.as_slice()) {

@@ -47,7 +47,7 @@ fn first_off<K: Kind>(p: &[K], q: u16) -> Flatness
     answer
 }
 
-// Whether the polygon is flat to a tolerance: no typeof.n.P(i) differs from (n − i)·P(0) + typeof.i.P(n) by more than n times the tolerance, on any axis.
+// Whether the polygon is flat to a tolerance: no n·P(i) differs from (n − i)·P(0) + i·P(n) by more than n times the tolerance, on any axis.
 pub fn flat_test<K: Kind>(polygon: &[K], tolerance: u16) -> Result<Flatness, Fault>
     ensures { Tested (map K.coord polygon.now) (length polygon.now) (λ _. tolerance) result }
 {
