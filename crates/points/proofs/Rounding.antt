@@ -1,6 +1,6 @@
-use Rattle.std.proofs.Common.{◌≡◌, ℕ, ◌+◌, ◌-◌, ◌*◌, ◌/◌, ◌%◌, ◌<◌, ◌≤◌, ℤ, pos, negsuc, ◌+ℤ◌, ◌-ℤ◌, ◌*ℤ◌, neg_ℤ, sym, ap, ◌∙◌, mul-le-mul_left, div-add-mod', arith}
+use Rattle.std.proofs.Common.{◌≡◌, ℕ, ◌+◌, ◌-◌, ◌*◌, ◌/◌, ◌%◌, ◌<◌, ◌≤◌, ℤ, pos, negsuc, ◌+ℤ◌, ◌*ℤ◌, sym, ap, ◌∙◌, mul-le-mul_left, div-add-mod', arith}
 use native.Mathlib.Nat.{add-mul-div_right}
-use borrow.Author.Differences.{up, down, same_in, same_out, sum_is_lem, neg_is, product_is}
+use borrow.Author.Differences.{up, down, same_in, same_out, sum_is_lem, product_is}
 use Rattle.std.proofs.lemmas.Nat.{mod_below, div-mul-add, div_below}
 use Rattle.exact.specs.Mixing.{floor_div}
 use Rattle.points.specs.Points.{mixed}
@@ -66,48 +66,3 @@ pub weighed-quot : (w d u v : ℕ) → 1 ≤ d → w ≤ d → u < 4294967296 �
 weighed-quot w d u v dl wd ul vl =
     let b = weighed-below w d u v wd ul vl in
     div_below _ (2 * d) 4294967296 (omega arith) (omega (arith, b))
-
--- a number that lies between −b and b
-pub between : (z : ℤ) (b : ℕ) → up z ≤ b + down z → down z ≤ b + up z → (up z ≤ b) × (down z ≤ b)
-between (pos n) b h k = (omega arith, omega arith)
-between (negsuc n) b h k = (omega arith, omega arith)
-
--- an axis value
-abbrev pub OnAxis : ℤ → Type 0
-OnAxis z = (up z ≤ 2147483647) × (down z ≤ 2147483648)
-
--- mixing stays on the axis
-pub mixed-on-axis : (w d : ℕ) (p q : ℤ) → 1 ≤ d → w ≤ d → OnAxis p → OnAxis q → OnAxis (mixed w d p q)
-mixed-on-axis w d p q dl wd lp lq =
-    let u = up p + 2147483648 - down p in
-    let v = up q + 2147483648 - down q in
-    let n = (2 * ((d - w) * u + w * v) + d) / (2 * d) in
-    let eu : pos u ≡ p +ℤ pos 2147483648 = same_in _ _ (omega (arith, sum_is_lem p (pos 2147483648))) in
-    let ev : pos v ≡ q +ℤ pos 2147483648 = same_in _ _ (omega (arith, sum_is_lem q (pos 2147483648))) in
-    let er : (pos n +ℤ negsuc 2147483647) +ℤ pos 2147483648 ≡ pos n = same_in _ _ (omega (arith, sum_is_lem (pos n) (negsuc 2147483647), sum_is_lem (pos n +ℤ negsuc 2147483647) (pos 2147483648))) in
-    let l : n < 4294967296 = weighed-quot w d u v dl wd (omega arith) (omega arith) in
-    let e = mixed-shifted w d u v p q (pos n +ℤ negsuc 2147483647) dl wd eu ev er in
-    on-axis _ n (sum_is_lem (pos n) (negsuc 2147483647)) l e
-  where
-    on-axis : (z : ℤ) (n : ℕ) → up (pos n +ℤ negsuc 2147483647) + down (pos n) + down (negsuc 2147483647) ≡ down (pos n +ℤ negsuc 2147483647) + up (pos n) + up (negsuc 2147483647) → n < 4294967296 → pos n +ℤ negsuc 2147483647 ≡ z → OnAxis z
-    on-axis (pos a) n s l e = omega (arith, s, same_out _ _ e)
-    on-axis (negsuc a) n s l e = omega (arith, s, same_out _ _ e)
-
--- the quotient of the sum that is counted from p
-pub mixed-raised : (w d s : ℕ) (p q l : ℤ) → 1 ≤ d → w ≤ d → OnAxis p → l ≡ pos (2 * w) *ℤ (q -ℤ p) → pos s ≡ l +ℤ pos (d + 4294967296 * (2 * d)) → mixed w d p q +ℤ pos 4294967296 ≡ p +ℤ pos (s / (2 * d))
-unfolding mixed
-mixed-raised w d s p q l dl wd lp el es =
-    let E = d - w in
-    let K = 4294967296 + down p - up p in
-    let k : K + up p ≡ 4294967296 + down p = omega arith in
-    let kd = times-eq d _ _ k in
-    let ew : d ≡ E + w = omega arith in
-    let pu : d * up p ≡ (E + w) * up p = ap (λ x. x * up p) ew in
-    let pd : d * down p ≡ (E + w) * down p = ap (λ x. x * down p) ew in
-    let g : up (q -ℤ p) + down q + up p ≡ down (q -ℤ p) + up q + down p = omega (arith, sum_is_lem q (neg_ℤ p), neg_is p) in
-    let gw = times-eq w _ _ g in
-    let N = pos E *ℤ p +ℤ pos w *ℤ q in
-    let Z = pos 2 *ℤ N +ℤ pos d in
-    let z : Z +ℤ pos (K * (2 * d)) ≡ pos s = same_in _ _ (omega (arith, product_is (pos E) p, product_is (pos w) q, sum_is_lem (pos E *ℤ p) (pos w *ℤ q), product_is (pos 2) N, sum_is_lem (pos 2 *ℤ N) (pos d), sum_is_lem Z (pos (K * (2 * d))), same_out _ _ el, same_out _ _ es, sum_is_lem l (pos (d + 4294967296 * (2 * d))), product_is (pos (2 * w)) (q -ℤ p), gw, kd, pu, pd)) in
-    let f = floor_div-shift Z K (2 * d) s (omega arith) z in
-    same_in _ _ (omega (arith, same_out _ _ f, sum_is_lem (floor_div Z (2 * d)) (pos K), sum_is_lem (floor_div Z (2 * d)) (pos 4294967296), sum_is_lem p (pos (s / (2 * d)))))
