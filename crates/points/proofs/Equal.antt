@@ -1,5 +1,5 @@
 -- The tests of whether two points of a kind are the same say so.
-use Rattle.std.proofs.Common.{◌≡◌, ℕ, zero, suc, Bool, true, false, ◌&&◌, ◌≢◌, min, ℤ, pos, refl, sym, ap, ◌∙◌, arith}
+use Rattle.std.proofs.Common.{◌≡◌, ℕ, zero, suc, Bool, true, false, ◌&&◌, min, pos, refl, sym, ap, ◌∙◌, true≢false, unsigned_abs, nat_eq}
 use mathlib.Core.Path.{fun_ext}
 use Rattle.std.specs.Ordering.{int_eq}
 use Rattle.std.specs.Bool.{Decides}
@@ -15,10 +15,10 @@ same-answer p q true b s d = sym (d.1 (s.same refl))
 same-answer p q false true s d = absurd (s.other refl (d.0 refl))
 same-answer p q false false s d = refl
 
+-- both tests hold where both together do, and the other way round
 both : (a b : Bool) → a && b ≡ true → (a ≡ true) × (b ≡ true)
-both true true e = (refl, refl)
-both true false e = (refl, e)
-both false b e = (e, absurd (Rattle.std.proofs.Common.true≢false (sym e)))
+both true b e = (refl, e)
+both false b e = absurd (true≢false (sym e))
 
 joined : (a b : Bool) → a ≡ true → b ≡ true → a && b ≡ true
 joined a b e f = ap (λ x. x && b) e ∙ f
@@ -46,9 +46,9 @@ sample-decides p q = (
 )
   where
     natural : {a b : ℕ} → pos a ≡ pos b → a ≡ b
-    natural e = ap Rattle.std.proofs.Common.unsigned_abs e
+    natural e = ap unsigned_abs e
 
-    at : int_eq p.x q.x ≡ true → (int_eq p.y q.y ≡ true) × (Rattle.std.proofs.Common.nat_eq (min p.press 4095) (min q.press 4095) ≡ true) → (a : ℕ) → sample p a ≡ sample q a
+    at : int_eq p.x q.x ≡ true → (int_eq p.y q.y ≡ true) × (nat_eq (min p.press 4095) (min q.press 4095) ≡ true) → (a : ℕ) → sample p a ≡ sample q a
     at e f zero = (Decides-int_eq p.x q.x).0 e
     at e f (suc zero) = (Decides-int_eq p.y q.y).0 f.0
     at e f (suc (suc zero)) = ap pos ((Decides-eqb (min p.press 4095) (min q.press 4095)).0 f.1)
