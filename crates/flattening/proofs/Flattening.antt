@@ -44,12 +44,16 @@ pub freed : {K : Type 0} (m : Meaning) (size : ℕ) (bs bs' : List K) → Drawab
 freed (fails f) size bs bs' d p = absurd d
 freed (holds h) size bs bs' d p = ((λ (l : length bs < needed h). absurd (omega arith)), p)
 
--- What a walk over a source is known for: its answer r, the buffer from bs to bs', the vertex points from xs to xs' and their parameters from ms to ms'.
-pub record Ran {K : Type 0} (c : K → Point) (width : ℕ) (tol : ℕ → ℕ) (m : Meaning) (r : Result ℕ Fault) (bs bs' xs xs' : List K) (ms ms' : List ℕ) : Type 0 where
+-- what a walk over a source answers and puts: its answer r, the vertex points from xs to xs' and their parameters from ms to ms'
+pub record Putting {K : Type 0} (c : K → Point) (width : ℕ) (tol : ℕ → ℕ) (m : Meaning) (r : Result ℕ Fault) (xs xs' : List K) (ms ms' : List ℕ) : Type 0 where
   pub answer : r ≡ walk_of width tol m
-  pub past : PastNeeded m bs bs'
   pub points : PutsSome c (vertices_of width tol m) r xs xs'
   pub parameters : PutsSome (λ t. t) (parameters_of width tol m) r ms ms'
+
+-- and what it leaves of its buffer, from bs to bs'
+pub record Ran {K : Type 0} (c : K → Point) (width : ℕ) (tol : ℕ → ℕ) (m : Meaning) (r : Result ℕ Fault) (bs bs' xs xs' : List K) (ms ms' : List ℕ) : Type 0 where
+  pub past : PastNeeded m bs bs'
+  pub puts : Putting c width tol m r xs xs' ms ms'
 
 -- the first value, and then those of the pieces
 put_some : {X Y : Type 0} (c : X → Y) (o : Outcome) (r : Result ℕ Fault) (first : Y) (f : Piece → Y) (ys : Outcome → List Y) (xs mid xs' : List X) → ((s : ℕ) → ys (bent s) ≡ []) → ((ps : List Piece) → ys (kept ps) ≡ first ∷ map f ps)
@@ -74,17 +78,13 @@ module _ {K : Type 0} (c : K → Point) (width : ℕ) (tol : ℕ → ℕ) (size 
       let first : c v ≡ first_of h.points = read_is c b 0 v (omega arith) ev ∙ sym (get_or-take size (map c b) 0 origin (omega arith)) ∙ ap first_of (take-map c size b ∙ held) in
       let past : drop (needed h) t.buffer.now ≡ drop (needed h) bs = drop-further t.buffer.now s.buffer.now (s.used + 12 * s.size) (needed h) (omega arith) k.stack.above ∙ ap (drop (needed h)) eb ∙ drop-further b bs h.reach (needed h) (omega arith) low.1 in
       record {
-        answer = k.answer;
         past = past;
-        points = put_some c o r (first_of h.points) (λ x. last_of x.points) (vertices h.points) xs ys xs' (λ _. refl) (λ _. refl) k.answer (put_one c 0 (first_of h.points) v xs ys ex first) k.points;
-        parameters = put_some (λ t. t) o r 0 end_of parameters ms ns ms' (λ _. refl) (λ _. refl) k.answer (put_one (λ t. t) 0 0 0 ms ns em refl) k.parameters;
+        puts = record {
+          answer = k.answer;
+          points = put_some c o r (first_of h.points) (λ x. last_of x.points) (vertices h.points) xs ys xs' (λ _. refl) (λ _. refl) k.answer (put_one c 0 (first_of h.points) v xs ys ex first) k.points;
+          parameters = put_some (λ t. t) o r 0 end_of parameters ms ns ms' (λ _. refl) (λ _. refl) k.answer (put_one (λ t. t) 0 0 0 ms ns em refl) k.parameters;
+        };
       }
-
--- what a walk puts
-pub record Putting {K : Type 0} (c : K → Point) (width : ℕ) (tol : ℕ → ℕ) (m : Meaning) (r : Result ℕ Fault) (xs xs' : List K) (ms ms' : List ℕ) : Type 0 where
-  pub answer : r ≡ walk_of width tol m
-  pub points : PutsSome c (vertices_of width tol m) r xs xs'
-  pub parameters : PutsSome (λ t. t) (parameters_of width tol m) r ms ms'
 
 -- values that were put on a buffer that is long enough
 puts-all : {X Y : Type 0} (c : X → Y) (ys : List Y) (n : ℕ) (xs xs' : List X) → length ys ≡ n → n ≤ length xs → PutFrom c 0 ys xs xs' → PutsFirst c ys (Ok n) xs xs'
