@@ -39,7 +39,7 @@ fn draw_and_walk<S: Source>(
     walk(&mut stack, tolerance, 12, 0, points, parameters, 1)
 }
 
-// The same on the working buffer.
+// The same on the places of the working buffer that are needed, or on more of them.
 fn walk_source<S: Source>(
     source: &S,
     size: usize,
