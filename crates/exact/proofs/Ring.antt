@@ -1,10 +1,11 @@
 -- The ring laws of ℤ that the library lacks, and `ring`, by which `simp` proves identities of sums and products.
-use Rattle.std.proofs.Common.{◌≡◌, ℕ, suc, ◌+◌, ◌*◌, ◌<◌, ◌≤◌, ℤ, pos, negsuc, ◌+ℤ◌, ◌-ℤ◌, ◌*ℤ◌, neg_ℤ, nat_abs, ◌≤ℤ◌, ◌<ℤ◌, sym, refl, ap, ◌∙◌, mul-le-mul_left, arith}
-use borrow.Author.Differences.{ints, up, down, sum_is_lem, product_is, same_in, abs_is, neg_is}
+use Rattle.std.proofs.Common.{◌≡◌, ℕ, ◌+◌, ◌*◌, ◌<◌, ◌≤◌, ℤ, pos, ◌+ℤ◌, ◌-ℤ◌, ◌*ℤ◌, neg_ℤ, nat_abs, ◌≤ℤ◌, ◌<ℤ◌, sym, refl, ap, ◌∙◌, mul-le-mul_left, arith}
+use borrow.Author.Differences.{ints, up, down, sum_is_lem, product_is, same_in, neg_is}
 use lib.IntN.{+ℤ_assoc, +ℤ_comm, *ℤ_comm}
 use borrow.Author.Differences.{at_most_in, below_in, le_out, lt_out}
 use native.Mathlib.Nat.{le_of_mul-le-mul_left}
 use native.Mathlib.Decide.{dec_lt}
+use Rattle.std.proofs.lemmas.Int.{unsigned_abs-mul}
 
 up-* : (a b : ℤ) → up (a *ℤ b) ≡ up a * up b + down a * down b
 up-* a b = (product_is a b).0
@@ -54,8 +55,7 @@ pub gap-sum : (a b c d : ℤ) → gap (a +ℤ b) (c +ℤ d) ≤ gap a c + gap b 
 gap-sum a b c d = omega (arith, ints)
 
 pub abs-pos-* : (k : ℕ) (a : ℤ) → nat_abs (pos k *ℤ a) ≡ k * nat_abs a
-abs-pos-* k (pos a) = refl
-abs-pos-* k (negsuc a) = omega (arith, abs_is (neg_ℤ (pos (k * suc a))), neg_is (pos (k * suc a)))
+abs-pos-* k a = unsigned_abs-mul (pos k) a
 
 pub *ℤ-neg : (a b : ℤ) → a *ℤ neg_ℤ b ≡ neg_ℤ (a *ℤ b)
 *ℤ-neg a b = same_in _ _ (omega (arith, product_is a (neg_ℤ b), neg_is b, neg_is (a *ℤ b), product_is a b, ap (λ x. up a * x) (neg_is b).0, ap (λ x. up a * x) (neg_is b).1, ap (λ x. down a * x) (neg_is b).0, ap (λ x. down a * x) (neg_is b).1))

@@ -2,6 +2,7 @@ use Rattle.std.proofs.Common.{◌≡◌, ℕ, zero, suc, ◌+◌, ◌-◌, ◌*�
 use mathlib.Core.Path.{fun_ext}
 use native.Mathlib.Nat.{div-eq_of_lt}
 use Rattle.std.proofs.lemmas.Nat.{div_below}
+use Rattle.std.proofs.Math.Nat.{sub-add_cancel}
 use Rattle.points.specs.declared.height.Height.{Height}
 use Rattle.points.specs.declared.planar.Planar.{Planar}
 use Rattle.points.specs.declared.sample.Sample.{Sample}
@@ -19,38 +20,35 @@ mixed-nat w d a b m dl wd al bl =
     let E = d - w in
     let x : E * a ≤ E * m = mul-le-mul_left E al in
     let y : w * b ≤ w * m = mul-le-mul_left w bl in
-    let z : E * m + w * m ≡ d * m = sum-mul d w m wd in
+    let z : E * m + w * m ≡ d * m = omega (arith, ap (λ x. x * m) (sub-add_cancel wd)) in
     let s = (2 * (E * a + w * b) + d) / (2 * d) in
     let l : s < suc m = div_below (2 * (E * a + w * b) + d) (2 * d) (suc m) (omega arith) (omega arith) in
     (s, refl, omega arith)
-  where
-    sum-mul : (d w m : ℕ) → w ≤ d → (d - w) * m + w * m ≡ d * m
-    sum-mul d w m h = let e = d - w in let k : d ≡ e + w = omega arith in let k2 : d * m ≡ (e + w) * m = ap (λ x. x * m) k in omega arith
 
 pub planar-mixed : (w d : ℕ) (p q r : Planar) → 1 ≤ d → r.x ≡ mixed w d p.x q.x → r.y ≡ mixed w d p.y q.y → planar r ≡ mix_point w d (planar p) (planar q)
-planar-mixed w d p q r h ex ey = fun_ext (at w d p q r h ex ey)
+planar-mixed w d p q r h ex ey = fun_ext at
   where
-    at : (w d : ℕ) (p q r : Planar) → 1 ≤ d → r.x ≡ mixed w d p.x q.x → r.y ≡ mixed w d p.y q.y → (a : ℕ) → planar r a ≡ mix_point w d (planar p) (planar q) a
-    at w d p q r h ex ey zero = ex
-    at w d p q r h ex ey (suc zero) = ey
-    at w d p q r h ex ey (suc (suc a)) = mixed-zero w d h
+    at : (a : ℕ) → planar r a ≡ mix_point w d (planar p) (planar q) a
+    at zero = ex
+    at (suc zero) = ey
+    at (suc (suc a)) = mixed-zero w d h
 
 pub sample-mixed : (w d : ℕ) (p q r : Sample) → 1 ≤ d → w ≤ d → r.x ≡ mixed w d p.x q.x → r.y ≡ mixed w d p.y q.y → pos r.press ≡ mixed w d (pos (min p.press 4095)) (pos (min q.press 4095)) → sample r ≡ mix_point w d (sample p) (sample q)
-sample-mixed w d p q r h wd ex ey ez = fun_ext (at w d p q r h wd ex ey ez)
+sample-mixed w d p q r h wd ex ey ez = fun_ext at
   where
-    at : (w d : ℕ) (p q r : Sample) → 1 ≤ d → w ≤ d → r.x ≡ mixed w d p.x q.x → r.y ≡ mixed w d p.y q.y → pos r.press ≡ mixed w d (pos (min p.press 4095)) (pos (min q.press 4095)) → (a : ℕ) → sample r a ≡ mix_point w d (sample p) (sample q) a
-    at w d p q r h wd ex ey ez zero = ex
-    at w d p q r h wd ex ey ez (suc zero) = ey
-    at w d p q r h wd ex ey ez (suc (suc zero)) =
+    at : (a : ℕ) → sample r a ≡ mix_point w d (sample p) (sample q) a
+    at zero = ex
+    at (suc zero) = ey
+    at (suc (suc zero)) =
         let n = mixed-nat w d (min p.press 4095) (min q.press 4095) 4095 h wd (omega arith) (omega arith) in
         let e : pos r.press ≡ pos n.0 = ez ∙ n.1 in
         let k : r.press ≡ n.0 = cc in
         ap pos (omega arith) ∙ ez
-    at w d p q r h wd ex ey ez (suc (suc (suc a))) = mixed-zero w d h
+    at (suc (suc (suc a))) = mixed-zero w d h
 
 pub height-mixed : (w d : ℕ) (p q r : Height) → 1 ≤ d → r.z ≡ mixed w d p.z q.z → height r ≡ mix_point w d (height p) (height q)
-height-mixed w d p q r h ez = fun_ext (at w d p q r h ez)
+height-mixed w d p q r h ez = fun_ext at
   where
-    at : (w d : ℕ) (p q r : Height) → 1 ≤ d → r.z ≡ mixed w d p.z q.z → (a : ℕ) → height r a ≡ mix_point w d (height p) (height q) a
-    at w d p q r h ez zero = ez
-    at w d p q r h ez (suc a) = mixed-zero w d h
+    at : (a : ℕ) → height r a ≡ mix_point w d (height p) (height q) a
+    at zero = ez
+    at (suc a) = mixed-zero w d h

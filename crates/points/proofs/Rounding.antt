@@ -20,23 +20,17 @@ floor_div-shift (negsuc a) k m n h e =
     let dm : q * m + r ≡ a = div-add-mod' a m in
     let rl : r < m = mod_below a m h in
     let lt : q * m + r < k * m = omega arith in
-    let ql : q < k = div-below-k a k m h (omega arith) in
+    let ql : q < k = div_below a m k h (omega arith) in
     let nn : (k - q - 1) * m + (m - 1 - r) ≡ n = below k q m r n ql rl (omega arith) in
     let dn : n / m ≡ k - q - 1 = ap (λ x. x / m) (sym nn) ∙ div-mul-add (k - q - 1) m (m - 1 - r) (omega arith) in
     same_in _ _ (omega (arith, sum_is_lem (negsuc q) (pos k), dn))
   where
-    div-below-k : (a k m : ℕ) → 0 < m → a < k * m → a / m < k
-    div-below-k a k m h l = div_below a m k h l
-
     below : (k q m r n : ℕ) → q < k → r < m → n + (q * m + r) + 1 ≡ k * m → (k - q - 1) * m + (m - 1 - r) ≡ n
     below k q m r n ql rl e =
         let j = k - q - 1 in
         let ke : k ≡ j + q + 1 = omega arith in
         let ke2 : k * m ≡ (j + q + 1) * m = ap (λ x. x * m) ke in
         omega arith
-
-times-eq : (k a b : ℕ) → a ≡ b → k * a ≡ k * b
-times-eq k a b e = ap (λ x. k * x) e
 
 -- one axis value counted from the least one, mixed there
 pub mixed-shifted : (w d u v : ℕ) (p q r : ℤ) → 1 ≤ d → w ≤ d → pos u ≡ p +ℤ pos 2147483648 → pos v ≡ q +ℤ pos 2147483648 → r +ℤ pos 2147483648 ≡ pos ((2 * ((d - w) * u + w * v) + d) / (2 * d)) → r ≡ mixed w d p q
@@ -45,8 +39,8 @@ mixed-shifted w d u v p q r dl wd eu ev er =
     let E = d - w in
     let su : u + down p ≡ up p + 2147483648 = omega (arith, same_out _ _ eu, sum_is_lem p (pos 2147483648)) in
     let sv : v + down q ≡ up q + 2147483648 = omega (arith, same_out _ _ ev, sum_is_lem q (pos 2147483648)) in
-    let mu = times-eq E _ _ su in
-    let mv = times-eq w _ _ sv in
+    let mu = ap (λ x. E * x) su in
+    let mv = ap (λ x. w * x) sv in
     let N = pos E *ℤ p +ℤ pos w *ℤ q in
     let Z = pos 2 *ℤ N +ℤ pos d in
     let M = 2 * (E * u + w * v) + d in

@@ -1,5 +1,8 @@
-ghost use Rattle.std.specs.Prelude.{◌≡◌};
-ghost use Rattle.points.specs.Refusals.{number_of, refuse};
+ghost use Rattle.std.specs.Prelude.{◌≡◌, ◌≤◌, Some, OnOk};
+ghost use Rattle.points.specs.Refusals.{number_of, refuse, placed, refusal_text};
+
+use std::error::Error;
+use std::fmt;
 
 // Why a call refuses.
 #[derive(Clone, Copy, PartialEq, Eq, Debug)]
@@ -30,12 +33,13 @@ pub enum Refusal {
     Overlong = 12,
 }
 
-impl Refusal {
-    // The number that reports give, 1 to 12.
-    pub fn number(self) -> u8
-        ensures { result ≡ number_of self }
-    {
-        self as u8
+// The number that reports give, 1 to 12.
+impl From<Refusal> for u8 {
+    ghost from_gives = { λ refusal number. number ≡ number_of refusal };
+
+    fn from(refusal: Refusal) -> u8 {
+        // The number stands beside each variant, and `as` is how it is read.
+        refusal as u8
     }
 }
 
@@ -59,3 +63,27 @@ impl Fault {
         }
     }
 }
+
+// A buffer has to have so many places; else refusal 2.
+pub fn test_places(needed: usize, places: usize) -> Result<(), Fault>
+    ensures answer { result ≡ placed needed places }
+    ensures fits { OnOk result (needed ≤ places) }
+{
+    if places < needed {
+        return Err(Fault::new(Refusal::Short, needed));
+    }
+    Ok(())
+}
+
+// The number of the refusal and the place; the storey is not told.
+impl fmt::Display for Fault {
+    ghost output = { λ fault. Some (refusal_text fault) };
+
+    fn fmt<W: fmt::Write>(&self, f: &mut fmt::Formatter<W>) -> fmt::Result {
+        let number = u8::from(self.refusal);
+        let place = self.place;
+        write!(f, "refused {number} at {place}")
+    }
+}
+
+impl Error for Fault {}

@@ -1,5 +1,5 @@
 ghost use Rattle.std.specs.Prelude.{◌≡◌};
-ghost use Rattle.points.specs.Points.{mixed, height, height_eq, Same};
+ghost use Rattle.points.specs.Points.{height, height_eq, Same};
 ghost use Rattle.std.proofs.Common.{rules};
 ghost use Rattle.std.specs.Cmp.Rules.{comparing};
 
@@ -11,14 +11,6 @@ use crate::weight::Weight;
 #[derive(Clone, Copy, Debug)]
 pub struct Height {
     pub z: i32,
-}
-
-fn mix_height(p: Height, q: Height, w: Weight) -> Height
-    ensures { result.z ≡ mixed w.num w.den p.z q.z }
-{
-    Height {
-        z: mix_axis(p.z, q.z, w),
-    }
 }
 
 impl Kind for Height {
@@ -39,10 +31,13 @@ impl Kind for Height {
     }
 
     fn mix(p: Height, q: Height, w: Weight) -> Height {
-        mix_height(p, q, w)
+        Height {
+            z: mix_axis(p.z, q.z, w),
+        }
     }
 }
 
+// Not derived: == promises as a clause that it is sameness on every axis, and a derive has no clauses of its own.
 impl PartialEq for Height {
     ghost eq = { height_eq };
 

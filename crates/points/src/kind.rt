@@ -32,10 +32,5 @@ pub trait Kind: Copy {
 pub fn same<K: Kind>(p: &K, q: &K) -> bool
     ensures { Same (K.coord p.now) (K.coord q.now) result }
 {
-    for a in 0..K::axes() {
-        if p.axis(a) != q.axis(a) {
-            return false;
-        }
-    }
-    true
+    (0..K::axes()).all(|a| p.axis(a) == q.axis(a))
 }

@@ -7,13 +7,15 @@ use crate::weight::Weight;
 fn shifted(p: i32) -> u64
     ensures { (pos result ≡ p +ℤ pos 2147483648) × (result < 4294967296) }
 {
-    (p as i64 + 2147483648) as u64
+    // `p.abs_diff(i32::MIN)` is the same number, and with it flattening takes a fifth longer.
+    (i64::from(p) + 2147483648) as u64
 }
 
 fn shifted_back(n: u64) -> i32
     requires { n < 4294967296 }
     ensures { result +ℤ pos 2147483648 ≡ pos n }
 {
+    // Both casts keep the number under the bound above; `try_from` would want an answer for a refusal that never comes.
     (n as i64 - 2147483648) as i32
 }
 
@@ -22,8 +24,8 @@ fn weighed(u: u64, v: u64, w: Weight) -> u64
     requires { (u < 4294967296) × (v < 4294967296) }
     ensures { result ≡ 2 * ((w.den - w.num) * u + w.num * v) + w.den }
 {
-    let num = w.num as u64;
-    let den = w.den as u64;
+    let num = u64::from(w.num);
+    let den = u64::from(w.den);
     2 * ((den - num) * u + num * v) + den
 }
 
@@ -31,7 +33,7 @@ fn weighed(u: u64, v: u64, w: Weight) -> u64
 fn divided(sum: u64, w: Weight) -> u64
     ensures { result ≡ sum / (2 * w.den) }
 {
-    sum / (2 * (w.den as u64))
+    sum / (2 * u64::from(w.den))
 }
 
 // One axis value mixed: the floor of (2·N + d) / (2·d), where N = (d − w)·p + w·q.

@@ -21,10 +21,6 @@ impl Parameter {
         if self.k > 15 {
             return Err(Fault::new(Refusal::OffScale, 0));
         }
-        let den = 1u16 << self.k;
-        if self.a > den {
-            return Err(Fault::new(Refusal::OffScale, 0));
-        }
-        Ok(Weight { num: self.a, den })
+        Weight::new(self.a, 1 << self.k)
     }
 }

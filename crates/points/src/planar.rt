@@ -1,5 +1,5 @@
 ghost use Rattle.std.specs.Prelude.{◌≡◌};
-ghost use Rattle.points.specs.Points.{mixed, planar, planar_eq, Same};
+ghost use Rattle.points.specs.Points.{planar, planar_eq, Same};
 ghost use Rattle.std.proofs.Common.{rules};
 ghost use Rattle.std.specs.Cmp.Rules.{comparing};
 
@@ -13,15 +13,6 @@ use crate::weight::Weight;
 pub struct Planar {
     pub x: i32,
     pub y: i32,
-}
-
-fn mix_planar(p: Planar, q: Planar, w: Weight) -> Planar
-    ensures { (result.x ≡ mixed w.num w.den p.x q.x) × (result.y ≡ mixed w.num w.den p.y q.y) }
-{
-    Planar {
-        x: mix_axis(p.x, q.x, w),
-        y: mix_axis(p.y, q.y, w),
-    }
 }
 
 impl Kind for Planar {
@@ -46,10 +37,14 @@ impl Kind for Planar {
     }
 
     fn mix(p: Planar, q: Planar, w: Weight) -> Planar {
-        mix_planar(p, q, w)
+        Planar {
+            x: mix_axis(p.x, q.x, w),
+            y: mix_axis(p.y, q.y, w),
+        }
     }
 }
 
+// Not derived: == promises as a clause that it is sameness on every axis, and a derive has no clauses of its own.
 impl PartialEq for Planar {
     ghost eq = { planar_eq };
 

@@ -25,7 +25,7 @@ impl Sample {
         ensures { MatchResult result (λ s. (s.x ≡ x) × (s.y ≡ y) × (s.press ≡ press) × (press ≤ 4095)) (λ f. (f ≡ refuse Press press) × (4095 < press)) }
     {
         if press > 4095 {
-            return Err(Fault::new(Refusal::Press, press as usize));
+            return Err(Fault::new(Refusal::Press, usize::from(press)));
         }
         Ok(Sample { x, y, press })
     }
@@ -55,21 +55,23 @@ impl Kind for Sample {
         match a {
             0 => self.x,
             1 => self.y,
-            2 => self.pressed() as i32,
+            2 => i32::from(self.pressed()),
             _ => 0,
         }
     }
 
     fn mix(p: Sample, q: Sample, w: Weight) -> Sample {
-        let press = mix_axis(p.pressed() as i32, q.pressed() as i32, w);
+        let press = mix_axis(i32::from(p.pressed()), i32::from(q.pressed()), w);
         Sample {
             x: mix_axis(p.x, q.x, w),
             y: mix_axis(p.y, q.y, w),
+            // A press between two of at most 4,095 is one, so the cast keeps it; `try_from` would want an answer for a refusal that never comes.
             press: press as u16,
         }
     }
 }
 
+// Not derived: two stored presses over 4,095 are the same press.
 impl PartialEq for Sample {
     ghost eq = { sample_eq };
 

@@ -18,7 +18,7 @@ impl Weight {
     pub fn new(num: u16, den: u16) -> Result<Weight, Fault>
         ensures { MatchResult result (λ w. (w.num ≡ num) × (w.den ≡ den)) (λ f. (f ≡ refuse OffScale 0) × (IsWeight num den → ⊥)) }
     {
-        if den < 1 || den > 32768 || num > den {
+        if !(1..=32768).contains(&den) || num > den {
             return Err(Fault::new(Refusal::OffScale, 0));
         }
         Ok(Weight { num, den })

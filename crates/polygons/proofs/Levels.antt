@@ -60,7 +60,6 @@ right-more f ps qs rs r m e inv bot = record {
 pub right-all : (f : Point → Point → Point) (ps qs : List Point) (r : ℕ) → length qs ≡ length ps → length ps ≤ suc r → RightDone f ps qs r → qs ≡ right f ps
 right-all f ps qs r e l inv = same_points qs (right f ps) (e ∙ sym (length-lasts f (length ps) ps refl)) (λ k h. inv.high k (length ps - 1 - k) (omega arith) (omega arith) ∙ sym (at_right f ps k (length ps - 1 - k) (omega arith)))
 
-pub right-next : (f : Point → Point → Point) (ps qs rs : List Point) (r m : ℕ) → 1 ≤ r → m + r ≡ length ps → RightDone f ps qs (r - 1) → Passed f qs rs m → RightDone f ps rs (r + 1 - 1)
-right-next f ps qs rs r m h e inv bot =
-    let b : suc (r - 1) ≡ r + 1 - 1 = omega arith in
-    subst (λ n. RightDone f ps rs n) b (right-more f ps qs rs (r - 1) m (omega arith) inv bot)
+-- the passes end at so many points: m are mixed, and m with the levels that are then done make the polygon
+pub right-next : (f : Point → Point → Point) (ps qs rs : List Point) (r s m : ℕ) → s ≡ r + 1 → m + s ≡ length ps → RightDone f ps qs r → Passed f qs rs m → RightDone f ps rs s
+right-next f ps qs rs r s m e l inv bot = subst (λ n. RightDone f ps rs n) (sym (e ∙ add-one r)) (right-more f ps qs rs r m (omega arith) inv bot)

@@ -1,7 +1,6 @@
 pub mod Writes
 pub mod Levels
 pub mod Raises
-pub mod Gaps
 pub mod Offs
 pub mod Puts
 pub mod Splits

@@ -1,9 +1,8 @@
-use Rattle.std.proofs.Common.{◌≡◌, ℕ, zero, suc, ◌+◌, ◌-◌, ◌*◌, ◌<◌, ◌≤◌, Bool, false, ltb, List, [], ◌∷◌, map, length, get_or, ℤ, pos, ◌+ℤ◌, ◌-ℤ◌, ◌*ℤ◌, neg_ℤ, nat_abs, sym, refl, ap, ◌∙◌, subst, ⊎_elim, arith}
+use Rattle.std.proofs.Common.{◌≡◌, ℕ, zero, suc, ◌+◌, ◌-◌, ◌*◌, ◌<◌, ◌≤◌, Bool, false, ltb, List, [], ◌∷◌, map, length, get_or, ℤ, pos, ◌+ℤ◌, ◌-ℤ◌, ◌*ℤ◌, neg_ℤ, nat_abs, Option, None, sym, refl, ap, ◌∙◌, subst, ⊎_elim, arith}
 use borrow.Author.Differences.{up, down, same_in, sum_is_lem, neg_is, product_is}
 use Rattle.std.proofs.lemmas.List.{length-map}
 use Rattle.std.proofs.lemmas.Bool.{le-ltb, cases_lt}
-use Rattle.polygons.specs.declared.flatness.Flatness.{Flatness}
-use Rattle.polygons.specs.declared.flatness.Flatness.TheVariants.{Flat}
+use Rattle.polygons.specs.declared.flatness.Off.{Off}
 use Rattle.points.specs.Points.{Point, origin}
 use Rattle.polygons.specs.Flatness.{off_by, off_at, FirstOff}
 use Rattle.polygons.proofs.Writes.{read_is}
@@ -71,7 +70,7 @@ module _ {X : Type 0} (co : X → Point) where
   pub off-none : (w : ℕ) → ((x : X) (a : ℕ) → w ≤ a → co x a ≡ pos 0) → (xs : List X) (q : ℕ → ℕ) (i : ℕ) → ((b : ℕ) → b < w → off_at (map co xs) q i b ≡ false) → (b : ℕ) → off_at (map co xs) q i b ≡ false
   off-none w law xs q i h b = ⊎_elim (h b) (off-lacking w law xs q i b) (cases_lt b w)
 
-  pub flat-all : (xs : List X) (q : ℕ → ℕ) (i : ℕ) (r : Flatness) → r ≡ Flat → length xs - 1 ≤ i → ((j : ℕ) → j < i → (b : ℕ) → off_at (map co xs) q j b ≡ false) → FirstOff (map co xs) q r
+  pub flat-all : (xs : List X) (q : ℕ → ℕ) (i : ℕ) (r : Option Off) → r ≡ None → length xs - 1 ≤ i → ((j : ℕ) → j < i → (b : ℕ) → off_at (map co xs) q j b ≡ false) → FirstOff (map co xs) q r
   flat-all xs q i r e l h =
       subst (λ v. FirstOff (map co xs) q v) (sym e)
       (λ j m b. ⊎_elim (λ (s : j < i). h j s b) (λ (s : i ≤ j). subst (λ k. off_at (map co xs) q k b ≡ false) (let z : length (map co xs) - 1 ≡ j = omega (arith, length-map xs co) in z) (last_on (map co xs) q b)) (cases_lt j i))

@@ -1,7 +1,7 @@
 -- What the calls leave on a buffer.
-use Rattle.std.proofs.Common.{◌≡◌, ℕ, ◌+◌, ◌-◌, ◌^◌, ◌<◌, ◌≤◌, List, ◌++◌, map, reverse, length, take, drop, ℤ, Ok, sym, ap, ◌∙◌, ap₂, subst₂, add-one, sub-one, arith}
+use Rattle.std.proofs.Common.{◌≡◌, ℕ, ◌+◌, ◌-◌, ◌^◌, ◌<◌, ◌≤◌, List, map, reverse, length, take, drop, ℤ, Ok, sym, ap, ◌∙◌, ap₂, subst₂, add-one, sub-one, arith}
 use mathlib.Core.Path.{fun_ext}
-use Rattle.std.proofs.lemmas.List.{length-map, length-take-le, take_all, drop_all, take_at, drop_at, take-map, take-take, get_or-take}
+use Rattle.std.proofs.lemmas.List.{length-map, length-take-le, take_all, drop_all, take-map, get_or-take}
 use Rattle.exact.specs.Polygon.{left, right, level}
 use Rattle.exact.proofs.Lists.{length-level, get_or-level}
 use Rattle.exact.proofs.Axes.{map-turn}
@@ -9,7 +9,7 @@ use Rattle.exact.proofs.Mirror.{mix-mirror, left-mirror}
 use Rattle.points.specs.declared.parameter.Parameter.{Parameter}
 use Rattle.points.specs.Points.{Point, origin, mixed, mix_point}
 use Rattle.polygons.specs.Buffers.{Puts}
-use Rattle.polygons.specs.Constructions.{Passed, mix_at, raised}
+use Rattle.polygons.specs.Constructions.{Passed, mix_at}
 use Rattle.polygons.proofs.Levels.{at, same_points}
 
 mixed-mirror : (w d : ℕ) → w ≤ d → (p q : ℤ) → mixed (d - w) d q p ≡ mixed w d p q
@@ -41,11 +41,6 @@ module _ {X : Type 0} (c : X → Point) where
   puts_level t w d before after n ew ed e l p rest =
       puts-level-by (mix_at t) before after n e l (subst₂ (λ u v. Passed (mix_point u v) (map c before) (map c after) n) ew ed p) rest
 
-  -- the right part at a weight is that at its parameter
-  pub puts-right : (t : Parameter) (w d : ℕ) (before after : List X) → w ≡ t.a → d ≡ 2 ^ t.k → length after ≡ length before → map c after ≡ right (mix_point w d) (map c before) → Puts c (right (mix_at t) (map c before)) (Ok tt) before after
-  puts-right t w d before after ew ed l e =
-      puts-all (right (mix_at t) (map c before)) before after l (e ∙ ap₂ (λ u v. right (mix_point u v) (map c before)) ew ed)
-
   -- the left part, made from the other end: mid is the right part of the reversed points
   pub puts-left : (t : Parameter) (w d u v : ℕ) (before mid after : List X) → w ≤ d → w ≡ t.a → d ≡ 2 ^ t.k → u ≡ d - w → v ≡ d → length after ≡ length before → map c mid ≡ right (mix_point u v) (map c (reverse before)) → after ≡ reverse mid → Puts c (left (mix_at t) (map c before)) (Ok tt) before after
   puts-left t w d u v before mid after h ew ed eu ev l em ea =
@@ -56,15 +51,3 @@ module _ {X : Type 0} (c : X → Point) where
 
   pub puts-turn : (before after : List X) → length after ≡ length before → after ≡ reverse before → Puts c (reverse (map c before)) (Ok tt) before after
   puts-turn before after l e = puts-all (reverse (map c before)) before after l (ap (map c) e ∙ map-turn c before)
-
-  -- a part of n + 1 places from the start, raised; ys is what it then holds
-  pub puts-raise : (n k : ℕ) (before ys : List X) → 1 ≤ n → k ≡ n + 1 → n + 1 ≤ length before → length ys ≡ length (take k before) → map c ys ≡ raised (map c (take (length (take k before) - 1) (take k before))) → Puts c (raised (map c (take n before))) (Ok tt) before (ys ++ drop k before)
-  puts-raise n k before ys h ek l ly e =
-      let lk : length (take k before) ≡ n + 1 = length-take-le k before (omega arith) ∙ ek in
-      let front : take (length (take k before) - 1) (take k before) ≡ take n before = ap (λ i. take i (take k before)) (let q : length (take k before) - 1 ≡ n = omega arith in q) ∙ take-take n k before (omega arith) in
-      let is : map c ys ≡ raised (map c (take n before)) = e ∙ ap (λ zs. raised (map c zs)) front in
-      let many : length (raised (map c (take n before))) ≡ length ys = sym (ap length is) ∙ length-map ys c in
-      let yl : length ys ≡ k = ly ∙ lk ∙ sym ek in (
-        ap (map c) (take_at ys (drop k before) (length (raised (map c (take n before)))) (sym many)) ∙ is,
-        drop_at ys (drop k before) (length (raised (map c (take n before)))) (sym many) ∙ ap (λ i. drop i before) (sym yl ∙ sym many),
-      )

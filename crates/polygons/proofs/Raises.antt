@@ -1,5 +1,5 @@
 -- Degree elevation in place, from the top down.
-use Rattle.std.proofs.Common.{◌≡◌, ℕ, zero, suc, ◌+◌, ◌-◌, ◌<◌, ◌≤◌, ◌≢◌, List, map, length, get_or, take, set, sym, refl, ap, ◌∙◌, subst, ⊎_elim, sub-one, arith}
+use Rattle.std.proofs.Common.{◌≡◌, ℕ, zero, suc, ◌+◌, ◌-◌, ◌<◌, ◌≤◌, ◌≢◌, List, map, length, get_or, take, set, sym, ap, ◌∙◌, subst, ⊎_elim, sub-one, arith}
 use Rattle.std.proofs.lemmas.List.{get_or-take, length-take-le, length-map, take-map}
 use Rattle.std.proofs.lemmas.Bool.{cases_eq}
 use Rattle.exact.proofs.Lists.{length-raise, raise-first, raise-inner, raise-last}
@@ -32,12 +32,6 @@ module _ {X : Type 0} (c : X → Point) (g : ℕ → Point → Point → Point) 
     where
       apart : (k j i : ℕ) → j ≤ k → k ≢ j → i ≡ j + 1 → i ≤ k
       apart k j i l n e = omega arith
-
-pub from-top-none : {g : ℕ → Point → Point → Point} (ps : List Point) (m : ℕ) → FromTop g ps ps m m
-from-top-none ps m = record { below = λ k l. refl; mixes = λ k l h. absurd (outside m k l h); above = λ k l. refl }
-  where
-    outside : (m k : ℕ) → m ≤ k → k < m → ⊥
-    outside m k l h = omega arith
 
 at-raised : (ps : List Point) (k : ℕ) → 1 ≤ k → k < length ps → at (raised ps) k ≡ mix_point k (length ps) (at ps k) (at ps (k - 1))
 at-raised ps zero h l = absurd (omega arith)

@@ -8,6 +8,10 @@ use Rattle.points.specs.Refusals.{refuse}
 use Rattle.points.specs.Parameters.{off_scale}
 use Rattle.points.specs.Points.{Point}
 
+-- a number of points, or a degree, from one number to another; else refusal 3
+abbrev pub ranged : ℕ → ℕ → ℕ → Result (Unit {0}) Fault
+ranged least most n = cond (nat_lt n least || nat_lt most n) (Err (refuse Degree n)) (Ok tt)
+
 -- a polygon has from 2 to 17 points
 abbrev pub sized : ℕ → Result (Unit {0}) Fault
 sized n = cond (nat_lt n 2 || nat_lt 17 n) (Err (refuse Degree n)) (Ok tt)

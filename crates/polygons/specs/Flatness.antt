@@ -1,10 +1,9 @@
 -- Flat polygons. The tolerance is a function of the axis.
-use Rattle.std.specs.Prelude.{◌≡◌, ℕ, ◌-◌, ◌*◌, ◌<◌, Bool, true, false, List, length, ℤ, pos, ◌+ℤ◌, ◌-ℤ◌, ◌*ℤ◌, Ok, Err, Result, nat_lt, slice_index_or, unsigned_abs}
+use Rattle.std.specs.Prelude.{◌≡◌, ℕ, ◌-◌, ◌*◌, ◌<◌, Bool, true, false, List, length, ℤ, pos, ◌+ℤ◌, ◌-ℤ◌, ◌*ℤ◌, Option, Some, None, Ok, Err, Result, nat_lt, slice_index_or, unsigned_abs}
 use Rattle.points.specs.declared.fault.Fault.{Fault}
 use Rattle.points.specs.Points.{Point, origin}
 use Rattle.polygons.specs.Buffers.{sized}
-use Rattle.polygons.specs.declared.flatness.Flatness.{Flatness}
-use Rattle.polygons.specs.declared.flatness.Flatness.TheVariants.{Flat, Off}
+use Rattle.polygons.specs.declared.flatness.Off.{Off}
 
 -- n·x differs from (n − i)·a + i·b by more than n·q
 unfoldable pub off_by : ℕ → ℕ → ℕ → ℤ → ℤ → ℤ → Bool
@@ -15,11 +14,11 @@ abbrev pub off_at : List Point → (ℕ → ℕ) → ℕ → ℕ → Bool
 off_at ps q i a = off_by (length ps - 1) i (q a) (slice_index_or ps 0 origin a) (slice_index_or ps i origin a) (slice_index_or ps (length ps - 1) origin a)
 
 -- a polygon is flat, or has a first point that is off, and on it a first axis
-abbrev pub FirstOff : List Point → (ℕ → ℕ) → Flatness → Type 0
-FirstOff ps q Flat = (i : ℕ) → i < length ps → (a : ℕ) → off_at ps q i a ≡ false
-FirstOff ps q (Off i a) = (i < length ps) × (off_at ps q i a ≡ true) × ((j : ℕ) → j < i → (b : ℕ) → off_at ps q j b ≡ false) × ((b : ℕ) → b < a → off_at ps q i b ≡ false)
+abbrev pub FirstOff : List Point → (ℕ → ℕ) → Option Off → Type 0
+FirstOff ps q None = (i : ℕ) → i < length ps → (a : ℕ) → off_at ps q i a ≡ false
+FirstOff ps q (Some o) = (o.point < length ps) × (off_at ps q o.point o.axis ≡ true) × ((j : ℕ) → j < o.point → (b : ℕ) → off_at ps q j b ≡ false) × ((b : ℕ) → b < o.axis → off_at ps q o.point b ≡ false)
 
 -- the answer of the flat test on a slice of n places
-abbrev pub Tested : List Point → ℕ → (ℕ → ℕ) → Result Flatness Fault → Type 0
+abbrev pub Tested : List Point → ℕ → (ℕ → ℕ) → Result (Option Off) Fault → Type 0
 Tested ps n q (Ok v) = (sized n ≡ Ok tt) × FirstOff ps q v
 Tested ps n q (Err f) = sized n ≡ Err f

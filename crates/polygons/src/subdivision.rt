@@ -5,7 +5,7 @@ ghost use Rattle.polygons.specs.Buffers.{sized, scaled, splittable, Puts};
 ghost use Rattle.polygons.specs.Constructions.{left_part_at, right_part_at, both_parts_at};
 
 use crate::level::{mix_level, test_call};
-use points::fault::{Fault, Refusal};
+use points::fault::{Fault, test_places};
 use points::kind::Kind;
 use points::parameter::Parameter;
 use points::weight::Weight;
@@ -14,9 +14,9 @@ use points::weight::Weight;
 fn right_part<K: Kind>(p: &mut [K], w: Weight)
     ensures { map K.coord p.new ≡ exact.right (mix_point w.num w.den) (map K.coord p.old) }
 {
-    let len = p.len();
-    for r in 1..len {
-        mix_level(p, len - r, w);
+    // n is how many points a pass mixes, and no place.
+    for n in (1..p.len()).rev() {
+        mix_level(p, n, w);
     }
 }
 
@@ -43,15 +43,18 @@ pub fn left<K: Kind>(polygon: &mut [K], t: Parameter) -> Result<(), Fault>
     Ok(())
 }
 
-// Both parts out of one triangle of mixes: the right part in place, and the first points of all levels, the left part, after it.
-fn both_parts<K: Kind>(two: &mut [K], points: usize, w: Weight)
-    requires { (1 ≤ points) × (length two.old ≡ points + points) }
-    ensures { map K.coord two.new ≡ exact.right (mix_point w.num w.den) (map K.coord (take points two.old)) ++ exact.left (mix_point w.num w.den) (map K.coord (take points two.old)) }
+// Both parts out of one triangle of mixes: the polygon becomes its right part, and its first point on each level goes to the left part.
+fn both_parts<K: Kind>(polygon: &mut [K], left: &mut [K], w: Weight)
+    requires { (1 ≤ length polygon.old) × (length left.old ≡ length polygon.old) }
+    ensures right { map K.coord polygon.new ≡ exact.right (mix_point w.num w.den) (map K.coord polygon.old) }
+    ensures left { map K.coord left.new ≡ exact.left (mix_point w.num w.den) (map K.coord polygon.old) }
 {
-    two[points] = two[0];
-    for r in 1..points {
-        mix_level(two, points - r, w);
-        two[points + r] = two[0];
+    let len = polygon.len();
+    left[0] = polygon[0];
+    // By number: a loop over the places of `left` that also puts the first of them makes flattening 12 % slower.
+    for n in (1..len).rev() {
+        mix_level(polygon, n, w);
+        left[len - n] = polygon[0];
     }
 }
 
@@ -61,9 +64,8 @@ pub fn split<K: Kind>(buffer: &mut [K], points: usize, t: Parameter) -> Result<(
     ensures split { Puts K.coord (both_parts_at t (map K.coord (take points buffer.old))) result buffer.old buffer.new }
 {
     let w = test_call(t, points)?;
-    if buffer.len() < points + points {
-        return Err(Fault::new(Refusal::Short, points + points));
-    }
-    both_parts(&mut buffer[0..points + points], points, w);
+    test_places(points + points, buffer.len())?;
+    let (polygon, rest) = buffer.split_at_mut(points);
+    both_parts(polygon, &mut rest[0..points], w);
     Ok(())
 }

@@ -1,21 +1,16 @@
 -- Lazy answers, refuted on small polygons.
-use Rattle.std.proofs.Common.{◌≡◌, ℕ, zero, suc, List, [], ◌∷◌, get_or, ℤ, pos, Ok, sym, refl, ◌∙◌, subst, arith}
+use Rattle.std.proofs.Common.{◌≡◌, ℕ, zero, suc, List, [], ◌∷◌, get_or, pos, Ok, sym, refl, ◌∙◌, subst, arith}
 use borrow.Author.Differences.{ints}
 use Rattle.std.proofs.lemmas.List.{length-map}
 use Rattle.exact.specs.Fractions.{whole, WithinHalf}
 use Rattle.exact.specs.Curve.{exact, control}
 use Rattle.exact.specs.Workings.{carried}
-use Rattle.exact.proofs.Ring.{gap_same}
-use Rattle.exact.proofs.Curve.{one-*}
 use Rattle.points.specs.Points.{Point}
 use Rattle.workings.specs.declared.working.Working.TheVariants.{Left}
 use Rattle.sources.specs.Meaning.{holds, Held}
 use Rattle.sources.specs.Accuracy.{along, Stands, AccurateOver, AccurateFor}
-use Rattle.flattening.proofs.Bites.{chords-bite}
+use Rattle.flattening.proofs.Bites.{close, chords-bite}
 use Rattle.promises.specs.Bites.{itself, height, half, one, rise, step, Bites}
-
-close : (e : ℕ) (z : ℤ) → WithinHalf e z (whole z)
-close e z = record { half = rw (one-* z) (omega (arith, gap_same z)) }
 
 itself-at : (a : ℕ) (ps : List Point) (i : ℕ) → control (along a (itself ps)) i ≡ whole (get_or (along a ps) i (pos 0))
 itself-at a [] i = refl

@@ -1,5 +1,5 @@
 -- Survey and draw over a working.
-use Rattle.std.proofs.Common.{◌≡◌, ℕ, ◌+◌, ◌-◌, ◌<◌, ◌≤◌, List, map, length, take, drop, Ok, Err, Result, sym, refl, ap, ◌∙◌, arith}
+use Rattle.std.proofs.Common.{◌≡◌, ◌+◌, ◌-◌, ◌<◌, ◌≤◌, List, map, length, take, drop, Ok, Err, Result, sym, refl, ap, ◌∙◌, arith}
 use Rattle.points.specs.declared.fault.Fault.{Fault}
 use Rattle.points.specs.Points.{Point}
 use Rattle.polygons.specs.Buffers.{Puts}
@@ -25,15 +25,15 @@ settled-told (Ok t) qs h = ap (λ d. Ok (record { degree = d; allowance = t.allo
 settled-told (Err f) qs h = refl
 
 pub survey-work : (w : Working) (m : Meaning) (s : Survey) → Sound m → Ok s ≡ climbing (survey_of m) → after w s ≡ survey_of (work w m)
-survey-work w (fails f) s h e = let z : ◌≡◌ {A = ℕ} 0 1 = cc in absurd (omega arith)
+survey-work w (fails f) s h e = cc
 survey-work w (holds p) s h e =
     let q : s ≡ told p = cc in
     ap (after w) q ∙ settled-told (after w (told p)) (shape w p.points) (λ t k. degree-is w p t h k)
 
 -- what draw over a working leaves: mid is the buffer after the draw below, fin the buffer at the end
-pub draw-work : {X : Type 0} (c : X → Point) (w : Working) (m : Meaning) (s t : Survey) (before mid fin : List X) → Sound m → Ok s ≡ climbing (survey_of m) → after w s ≡ Ok t → t.reach ≤ length before → Laid c m before mid → Puts c (shape w (map c (take (s.degree + 1) mid))) (Ok tt) mid fin → (Ok t ≡ draw_of (work w m) (length before)) × Laid c (work w m) before fin
-draw-work c w (fails f) s t before mid fin h e q l laid put = let z : ◌≡◌ {A = ℕ} 0 1 = cc in absurd (omega arith)
-draw-work c w (holds p) s t before mid fin h e q l laid put =
+pub draw-work : {X : Type 0} (c : X → Point) (w : Working) (m : Meaning) (s t : Survey) (before mid fin : List X) → Sound m → Ok s ≡ climbing (survey_of m) → after w s ≡ Ok t → t.reach ≤ length before → Puts c (shape w (map c (take (s.degree + 1) mid))) (Ok tt) mid fin → Laid c m before mid → (Ok t ≡ draw_of (work w m) (length before)) × Laid c (work w m) before fin
+draw-work c w (fails f) s t before mid fin h e q l put laid = cc
+draw-work c w (holds p) s t before mid fin h e q l put laid =
     let k : s ≡ told p = cc in
     let d : s.degree ≡ length p.points - 1 = ap (λ v. v.degree) k in
     let q2 : after w (told p) ≡ Ok t = ap (after w) (sym k) ∙ q in

@@ -1,7 +1,7 @@
 -- What answers of survey and draw say of a meaning.
-use Rattle.std.proofs.Common.{◌≡◌, ℕ, ◌+◌, ◌-◌, ◌<◌, ◌≤◌, cond, ltb, List, ◌++◌, map, length, drop, Ok, Err, Result, sym, refl, ap, ◌∙◌, subst, arith}
+use Rattle.std.proofs.Common.{◌≡◌, ℕ, ◌+◌, ◌-◌, ◌≤◌, cond, ltb, List, length, drop, Ok, Err, Result, sym, refl, ap, ◌∙◌, subst, arith}
 use Rattle.std.proofs.lemmas.Bool.{le-ltb, ltb-false}
-use Rattle.std.proofs.lemmas.List.{length-map, take_at, drop_at, drop-drop}
+use Rattle.std.proofs.lemmas.List.{drop-drop}
 use Rattle.points.specs.declared.fault.Fault.{Fault}
 use Rattle.points.specs.declared.fault.Refusal.TheVariants.{Short}
 use Rattle.points.specs.Refusals.{refuse}
@@ -13,7 +13,7 @@ use Rattle.sources.specs.Meaning.{Meaning, fails, holds, Held, told, survey_of, 
 
 pub surveyed-err : (m : Meaning) (f : Fault) → survey_of m ≡ Err f → m ≡ fails f
 surveyed-err (fails g) f e = ap fails (cc)
-surveyed-err (holds h) f e = let z : ◌≡◌ {A = ℕ} 0 1 = cc in absurd (omega arith)
+surveyed-err (holds h) f e = cc
 
 -- the answer of draw where the buffer is long enough
 pub drawn-ok : (h : Held) (n : ℕ) (s : Survey) (m : Meaning) → m ≡ holds h → s ≡ told h → h.reach ≤ n → Ok s ≡ draw_of m n
@@ -57,12 +57,3 @@ memory-surveyed ps e n s l q = by (sized n) refl
         let o : Ok s ≡ Ok (told (given ps e n)) = q ∙ ap survey_of m in
         let t : s ≡ told (given ps e n) = cc in
         (m, t, ap (λ v. v.reach) t)
-
--- points copied onto a buffer that is long enough
-pub laid-front : {X : Type 0} (c : X → Point) (xs ys before : List X) (e n k : ℕ) → ys ≡ xs → k ≡ n → length xs ≡ n → n ≤ length before → Laid c (holds (given (map c xs) e n)) before (ys ++ drop k before)
-laid-front c xs ys before e n k ey ek en h =
-    let ly : length ys ≡ n = ap length ey ∙ en in
-    let lp : length ys ≡ length (map c xs) = ly ∙ sym (length-map xs c ∙ en) in (
-      (λ (l : length before < n). absurd (omega arith)),
-      (λ _. (ap (map c) (take_at ys (drop k before) (length (map c xs)) lp ∙ ey), drop_at ys (drop k before) n ly ∙ ap (λ i. drop i before) ek)),
-    )

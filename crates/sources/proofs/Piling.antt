@@ -17,7 +17,7 @@ use Rattle.sources.specs.Meaning.{Meaning, fails, holds, Held, told}
 use Rattle.sources.specs.Piles.{climbed, settled, work, piled}
 
 fault-held : {A : Type 0} (f : Fault) (h : Held) → fails f ≡ holds h → A
-fault-held f h q = let z : ◌≡◌ {A = ℕ} 0 1 = cc in absurd (omega arith)
+fault-held f h q = cc
 
 -- no pile over a fault holds anything
 pub over-fault : {A : Type 0} (ws : List Working) (f : Fault) (h : Held) → piled ws (fails f) ≡ holds h → A

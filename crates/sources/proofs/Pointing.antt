@@ -37,7 +37,7 @@ first-is c t ps before fin x h l p e =
 
 -- mid is the buffer after draw, ys its first k places at the end, x the first of them
 pub point-work : {X : Type 0} (c : X → Point) (t : Parameter) (m : Meaning) (s u : Survey) (k : ℕ) (before mid ys : List X) (x : X) → Sound m → Ok s ≡ survey_of m → off_scale t ≡ false → Ok u ≡ draw_of m (length before) → length mid ≡ length before → Laid c m before mid → k ≡ s.degree + 1 → length ys ≡ length (take k mid) → Puts c (right_part_at t (map c (take k mid))) (Ok tt) (take k mid) ys → x ≡ get_or (ys ++ drop k mid) 0 x → (Ok (c x, s.allowance + s.degree) ≡ point_of t m (length before)) × Laid c (pointed t m) before (ys ++ drop k mid)
-point-work c t (fails f) s u k before mid ys x h es o eu em laid ek ly put ex = let z : ◌≡◌ {A = ℕ} 0 1 = cc in absurd (omega arith)
+point-work c t (fails f) s u k before mid ys x h es o eu em laid ek ly put ex = cc
 point-work c t (holds p) s u k before mid ys x h es o eu em laid ek ly put ex =
     let ps = p.points in
     let fin = ys ++ drop k mid in
@@ -48,7 +48,7 @@ point-work c t (holds p) s u k before mid ys x h es o eu em laid ek ly put ex =
     let low = laid.1 l in
     let kl : k ≡ length ps = omega arith in
     let held : map c (take k mid) ≡ ps = ap (λ j. map c (take j mid)) kl ∙ low.0 in
-    let whole : Puts c (right_part_at t ps) (Ok tt) mid fin = puts-part c (Ok tt) (right_part_at t ps) (right_part_at t (map c (take k mid))) k mid ys refl (ap (right_part_at t) held) (length-right t ps ∙ sym kl) (omega arith) ly put in
+    let whole : Puts c (right_part_at t ps) (Ok tt) mid fin = puts-part c (Ok tt) (right_part_at t ps) (right_part_at t (map c (take k mid))) k mid ys (ap (right_part_at t) held) (length-right t ps ∙ sym kl) (omega arith) ly put in
     let long : length fin ≡ length ys + length (drop k mid) = length-append ys (drop k mid) in
     let yl : length ys ≡ k = ly ∙ length-take-le k mid (omega arith) in
     let px : c x ≡ point_at t ps = first-is c t ps mid fin x (omega arith) (omega arith) whole ex in
@@ -61,7 +61,7 @@ point-work c t (holds p) s u k before mid ys x h es o eu em laid ek ly put ex =
 
 -- the polygon of a source that was surveyed has a size that passes
 pub surveyed-fit : (m : Meaning) (s : Survey) → Sound m → Ok s ≡ survey_of m → (1 ≤ s.degree) × (s.degree ≤ 16) × (s.allowance ≤ 65535)
-surveyed-fit (fails f) s h e = let z : ◌≡◌ {A = ℕ} 0 1 = cc in absurd (omega arith)
+surveyed-fit (fails f) s h e = cc
 surveyed-fit (holds p) s h e =
     let is : s ≡ told p = cc in
     let d : s.degree ≡ length p.points - 1 = ap (λ v. v.degree) is in
@@ -70,7 +70,7 @@ surveyed-fit (holds p) s h e =
 
 -- and a buffer that it was drawn on has a place for each point
 pub drawn-room : (m : Meaning) (s u : Survey) (n : ℕ) → Sound m → Ok s ≡ survey_of m → Ok u ≡ draw_of m n → s.degree + 1 ≤ n
-drawn-room (fails f) s u n h e d = let z : ◌≡◌ {A = ℕ} 0 1 = cc in absurd (omega arith)
+drawn-room (fails f) s u n h e d = cc
 drawn-room (holds p) s u n h e d =
     let is : s ≡ told p = cc in
     let g : s.degree ≡ length p.points - 1 = ap (λ v. v.degree) is in

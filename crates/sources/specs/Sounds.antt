@@ -18,7 +18,7 @@ pub memory_sound : (ps : List Point) (e : ℕ) → e ≤ 65535 → Sound (in_mem
 memory_sound ps e h = by (nat_lt (length ps) 2 || nat_lt 17 (length ps)) refl
   where
     by : (b : Bool) → (nat_lt (length ps) 2 || nat_lt 17 (length ps)) ≡ b → Sound (holding (cond b (Err (refuse Degree (length ps))) (Ok tt)) (record { points = ps; allowance = e; reach = length ps }))
-    by true q = λ s. let z : ◌≡◌ {A = ℕ} 0 1 = cc in omega arith
+    by true q = λ s. cc
     by false q =
         let o = or_parts (nat_lt (length ps) 2) (nat_lt 17 (length ps)) q in
         record { some = ltb-false (length ps) 2 o.0; most = ltb-false 17 (length ps) o.1; small = h; roomy = omega arith }

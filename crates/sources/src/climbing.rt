@@ -7,12 +7,8 @@ use points::fault::Fault;
 pub fn climb<T>(r: Result<T, Fault>) -> Result<T, Fault>
     ensures { result ≡ climbing r }
 {
-    match r {
-        Ok(x) => Ok(x),
-        Err(f) => Err(Fault {
-            refusal: f.refusal,
-            storey: f.storey.saturating_add(1),
-            place: f.place,
-        }),
-    }
+    r.map_err(|f| Fault {
+        storey: f.storey.saturating_add(1),
+        ..f
+    })
 }

@@ -18,8 +18,9 @@ pub fn point<S: Source>(source: &S, t: Parameter, buffer: &mut [S::K]) -> Result
     let s = source.survey()?;
     t.weight()?;
     source.draw(buffer)?;
-    right(&mut buffer[0..s.degree + 1], t)?;
-    Ok((buffer[0], s.allowance as u32 + s.degree as u32))
+    right(&mut buffer[..=s.degree], t)?;
+    // A degree is at most 16, so its cast keeps it; `try_from` would want an answer for a refusal that never comes.
+    Ok((buffer[0], u32::from(s.allowance) + s.degree as u32))
 }
 
 // The same on one axis.

@@ -3,9 +3,8 @@ ghost use Rattle.sources.specs.Meaning.{in_memory};
 ghost use Rattle.sources.specs.Sounds.{memory_sound};
 
 use crate::source::Source;
-use points::fault::{Fault, Refusal};
+use points::fault::Fault;
 use points::kind::Kind;
-use polygons::size::test_size;
 use workings::survey::Survey;
 
 // A polygon in memory: points that were given, with the allowance that they are told to have.
@@ -24,22 +23,12 @@ impl<'a, K: Kind> Source for InMemory<'a, K> {
     ghost sound = { λ s. memory_sound (map K.Kind.coord s.points.now) s.allowance s.small };
 
     fn survey(&self) -> Result<Survey, Fault> {
-        let n = self.points.len();
-        test_size(n)?;
-        Ok(Survey {
-            degree: n - 1,
-            allowance: self.allowance,
-            reach: n,
-        })
+        Survey::of_points(self.points.len(), self.allowance)
     }
 
     fn draw(&self, buffer: &mut [K]) -> Result<Survey, Fault> {
-        let s = self.survey()?;
-        if buffer.len() < s.reach {
-            return Err(Fault::new(Refusal::Short, s.reach));
-        }
-        let n = self.points.len();
-        buffer[0..n].copy_from_slice(self.points);
+        let s = self.survey()?.fitting(buffer.len())?;
+        buffer[..self.points.len()].copy_from_slice(self.points);
         Ok(s)
     }
 }

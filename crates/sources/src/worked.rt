@@ -1,22 +1,12 @@
-ghost use Rattle.std.specs.Prelude.{◌≡◌, length};
-ghost use Rattle.sources.specs.Meaning.{draw_of, Laid};
-ghost use Rattle.sources.specs.Piles.{climbing, work};
+ghost use Rattle.sources.specs.Piles.{work};
 ghost use Rattle.sources.specs.Sounds.{work_sound};
 
 use crate::climbing::climb;
 use crate::source::Source;
-use points::fault::{Fault, Refusal};
+use points::fault::Fault;
 use points::kind::Kind;
 use workings::survey::Survey;
 use workings::working::Working;
-
-// The source below draws; its fault climbs.
-fn draw_below<S: Source>(below: &S, buffer: &mut [S::K]) -> Result<Survey, Fault>
-    ensures answer { result ≡ climbing (draw_of (S.means below.now) (length buffer.old)) }
-    ensures laid { Laid S.K.Kind.coord (S.means below.now) buffer.old buffer.new }
-{
-    climb(below.draw(buffer))
-}
 
 // A working over a source, which is a source again, so that workings pile up.
 #[derive(Drop)]
@@ -41,10 +31,8 @@ impl<S: Source> Source for Worked<S> {
     fn draw(&self, buffer: &mut [S::K]) -> Result<Survey, Fault> {
         let s = climb(self.below.survey())?;
         let t = self.working.after(s)?;
-        if buffer.len() < t.reach {
-            return Err(Fault::new(Refusal::Short, t.reach));
-        }
-        draw_below(&self.below, buffer)?;
+        t.fitting(buffer.len())?;
+        climb(self.below.draw(buffer))?;
         self.working.apply(buffer, s.degree)?;
         Ok(t)
     }

@@ -1,8 +1,7 @@
 -- One call of a strand.
-use Rattle.std.proofs.Common.{◌≡◌, ℕ, ◌+◌, ◌-◌, ◌<◌, ◌≤◌, false, cond, ltb, List, ◌++◌, map, length, get_or, take, drop, Ok, Err, Result, sym, refl, ap, ◌∙◌, subst, arith}
-use Rattle.std.proofs.lemmas.Bool.{le-ltb, lt-ltb}
+use Rattle.std.proofs.Common.{◌≡◌, ℕ, ◌+◌, ◌≤◌, false, cond, ltb, List, ◌++◌, map, length, get_or, take, drop, Ok, Err, sym, ap, ◌∙◌, arith}
+use Rattle.std.proofs.lemmas.Bool.{le-ltb}
 use Rattle.std.proofs.lemmas.List.{length-map, length-take-le, length-append, take_at, drop_at}
-use Rattle.points.specs.declared.fault.Fault.{Fault}
 use Rattle.points.specs.declared.fault.Refusal.TheVariants.{OffScale, Short}
 use Rattle.points.specs.declared.parameter.Parameter.{Parameter}
 use Rattle.points.specs.Refusals.{refuse}
@@ -10,26 +9,10 @@ use Rattle.points.specs.Parameters.{off_scale}
 use Rattle.points.specs.Points.{Point}
 use Rattle.polygons.specs.Buffers.{Puts}
 use Rattle.polygons.specs.Constructions.{right_part_at}
-use Rattle.workings.specs.declared.survey.Survey.{Survey}
-use Rattle.workings.specs.declared.working.Working.{Working}
 use Rattle.workings.proofs.Shapes.{puts-part}
-use Rattle.sources.specs.Meaning.{Meaning, fails, holds, Sound, draw_of}
 use Rattle.sources.specs.Points.{point_at}
-use Rattle.sources.proofs.Meanings.{drawn-told}
 use Rattle.sources.proofs.Pointing.{first-is, length-right}
-use Rattle.strands.specs.States.{State, polygon, strand_point, placed, rework_of, Reworked, Stepped, Step}
-
--- the numbers of a strand that was loaded
-pub drawn-fit : (m : Meaning) (n : ℕ) (s : Survey) → Sound m → Ok s ≡ draw_of m n → (1 ≤ s.degree) × (s.degree ≤ 16) × (s.allowance ≤ 65535)
-drawn-fit (fails f) n s h q = let z : ◌≡◌ {A = ℕ} 0 1 = cc in absurd (omega arith)
-drawn-fit (holds p) n s h q =
-    let is = (drawn-told p n s q).1 in
-    let d : s.degree ≡ length p.points - 1 = ap (λ v. v.degree) is in
-    let a : s.allowance ≡ p.allowance = ap (λ v. v.allowance) is in
-    (omega arith, omega arith, omega arith)
-
-pub placed-ok : (r : Result Survey Fault) (t : Survey) (places : ℕ) → r ≡ Ok t → t.degree + 1 ≤ places → placed r places ≡ Ok t
-placed-ok r t places e h = ap (λ v. placed v places) e ∙ ap (λ b. cond b (Err (refuse Short (t.degree + 1))) (Ok t)) (le-ltb places (t.degree + 1) h)
+use Rattle.strands.specs.States.{State, polygon, strand_point}
 
 -- a strand's point: its polygon is copied onto the second buffer, cs, and the right part made there, ys
 pub point-work : {X : Type 0} (c : X → Point) (t : Parameter) (s : State X) (k : ℕ) (second cs ys : List X) (x : X)
@@ -49,7 +32,7 @@ point-work c t s k second cs ys x o hb hs ek ec ly put ex =
     let lp : length ps ≡ d + 1 = length-map (take (d + 1) s.buffer) c ∙ length-take-le (d + 1) s.buffer hb in
     let ml : length mid ≡ length cs + length (drop k second) = length-append cs (drop k second) in
     let km : k ≤ length mid = omega arith in
-    let whole : Puts c (right_part_at t ps) (Ok tt) mid fin = puts-part c (Ok tt) (right_part_at t ps) (right_part_at t (map c (take k mid))) k mid ys refl (ap (right_part_at t) held) (length-right t ps ∙ lp ∙ sym ek) km ly put in
+    let whole : Puts c (right_part_at t ps) (Ok tt) mid fin = puts-part c (Ok tt) (right_part_at t ps) (right_part_at t (map c (take k mid))) k mid ys (ap (right_part_at t) held) (length-right t ps ∙ lp ∙ sym ek) km ly put in
     let fl : length fin ≡ length ys + length (drop k mid) = length-append ys (drop k mid) in
     let px : c x ≡ point_at t ps = first-is c t ps mid fin x (omega arith) (omega arith) whole ex in
     let rl : length (right_part_at t ps) ≡ k = length-right t ps ∙ lp ∙ sym ek in
@@ -60,14 +43,3 @@ point-work c t s k second cs ys x o hb hs ek ec ly put ex =
       ap (λ z. Ok (z, s.allowance + d)) px ∙ sym po,
       (whole.0, whole.1 ∙ ap (λ j. drop j mid) rl ∙ dm ∙ ap (λ j. drop j second) (sym rl)),
     )
-
--- a working that was refused, and one that was done
-module _ {X : Type 0} (c : X → Point) (w : Working) (s : State X) where
-  pub step-refused : (f : Fault) → Err f ≡ rework_of w s → (r : Result (Unit {0}) Fault) → r ≡ Err f → Step c w s s r
-  step-refused f e r q = subst (λ v. Stepped c w v s s r) e (q, refl)
-
-  pub step-done : (t : Survey) (s' : State X) → rework_of w s ≡ Ok t → Reworked c w t s s' → Step c w s s' (Ok tt)
-  step-done t s' e h = subst (λ v. Stepped c w v s s' (Ok tt)) (sym e) (refl, h)
-
-pub placed-short : (r : Result Survey Fault) (t : Survey) (places : ℕ) → r ≡ Ok t → places < t.degree + 1 → Err (refuse Short (t.degree + 1)) ≡ placed r places
-placed-short r t places e h = sym (ap (λ v. placed v places) e ∙ ap (λ b. cond b (Err (refuse Short (t.degree + 1))) (Ok t)) (lt-ltb places (t.degree + 1) h))

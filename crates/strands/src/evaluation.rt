@@ -6,7 +6,7 @@ ghost use Rattle.strands.specs.States.{state, polygon, strand_point, outcome};
 ghost use Rattle.strands.specs.Histories.{AccurateAfter};
 
 use crate::strand::Strand;
-use points::fault::{Fault, Refusal};
+use points::fault::{Fault, test_places};
 use points::kind::Kind;
 use points::parameter::Parameter;
 use polygons::subdivision::right;
@@ -25,11 +25,10 @@ impl Strand {
     {
         t.weight()?;
         let n = self.degree + 1;
-        if buffer.len() < n || second.len() < n {
-            return Err(Fault::new(Refusal::Short, n));
-        }
-        second[0..n].copy_from_slice(&buffer[0..n]);
-        right(&mut second[0..n], t)?;
-        Ok((second[0], self.allowance as u32 + self.degree as u32))
+        test_places(n, buffer.len().min(second.len()))?;
+        second[..n].copy_from_slice(&buffer[..n]);
+        right(&mut second[..n], t)?;
+        // A degree is at most 16, so its cast keeps it; `try_from` would want an answer for a refusal that never comes.
+        Ok((second[0], u32::from(self.allowance) + self.degree as u32))
     }
 }

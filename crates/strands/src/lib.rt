@@ -1,4 +1,4 @@
-// Strands: polygons that are reworked call by call on a buffer of the caller's.
+// Strands: polygons that are reworked call by call on a buffer of the caller's, which is lent at each call, since there is no heap.
 #![tactic(auto)]
 
 pub mod evaluation;

@@ -3,7 +3,7 @@ ghost use Rattle.strands.specs.States.{state, Step};
 ghost use Rattle.strands.specs.Histories.{Continues};
 
 use crate::strand::Strand;
-use points::fault::{Fault, Refusal};
+use points::fault::Fault;
 use points::kind::Kind;
 use points::parameter::Parameter;
 use workings::survey::Survey;
@@ -21,15 +21,13 @@ impl Strand {
             reach: self.degree + 1,
         };
         let above = working.after(below)?;
-        if buffer.len() < above.degree + 1 {
-            return Err(Fault::new(Refusal::Short, above.degree + 1));
-        }
         working.apply(buffer, self.degree)?;
         self.degree = above.degree;
         self.allowance = above.allowance;
         Ok(())
     }
 
+    // The four workings have a call by name each, as the rules have them, and one body, `work`.
     // The left part at t, charged with the degree.
     pub fn left<K: Kind>(&mut self, t: Parameter, buffer: &mut [K]) -> Result<(), Fault>
         ensures step { Step K.coord (Left t) (state self.old buffer.old) (state self.new buffer.new) result }

@@ -10,7 +10,7 @@ use Rattle.workings.specs.Workings.{off_scale_in, charge_of, next_degree, tested
 
 -- an answer is never both
 pub err-ok : {A B : Type 0} (f : Fault) (x : A) → ◌≡◌ {A = Result A Fault} (Err f) (Ok x) → B
-err-ok f x e = let z : ◌≡◌ {A = ℕ} 0 1 = cc in absurd (omega arith)
+err-ok f x e = cc
 
 -- a test that did not refuse
 pub passed : {A : Type 0} (b : Bool) (f : Fault) (r : Result A Fault) (x : A) → cond b (Err f) r ≡ Ok x → (b ≡ false) × (r ≡ Ok x)
@@ -71,23 +71,14 @@ refusing true g f r n k e s = let q : g.refusal ≡ f.refusal = cc in n (q ∙ s
 refusing false g f r n k e s = k e s
 
 ok-err : {A B : Type 0} (x : A) (f : Fault) → ◌≡◌ {A = Result A Fault} (Ok x) (Err f) → B
-ok-err x f e = let z : ◌≡◌ {A = ℕ} 0 1 = cc in absurd (omega arith)
-
-scale-no : OffScale ≡ Short → ⊥
-scale-no e = let z : ◌≡◌ {A = ℕ} 0 1 = cc in omega arith
-
-degree-no : Degree ≡ Short → ⊥
-degree-no e = let z : ◌≡◌ {A = ℕ} 0 1 = cc in omega arith
-
-worn-no : Worn ≡ Short → ⊥
-worn-no e = let z : ◌≡◌ {A = ℕ} 0 1 = cc in omega arith
+ok-err x f e = cc
 
 tested-err : (w : Working) (n : ℕ) (f : Fault) → tested w n ≡ Err f → NotShort f
-tested-err w n f = refusing (off_scale_in w) (refuse OffScale 0) f _ scale-no (refusing (ltb n 1 || ltb 16 n) (refuse Degree n) f _ degree-no (refusing (ltb 16 (next_degree w n)) (refuse Degree (next_degree w n)) f _ degree-no (ok-err (next_degree w n) f)))
+tested-err w n f = refusing (off_scale_in w) (refuse OffScale 0) f _ (λ e. cc) (refusing (ltb n 1 || ltb 16 n) (refuse Degree n) f _ (λ e. cc) (refusing (ltb 16 (next_degree w n)) (refuse Degree (next_degree w n)) f _ (λ e. cc) (ok-err (next_degree w n) f)))
 
 charged-err : (w : Working) (s : Survey) (r : Result ℕ Fault) (f : Fault) → (r ≡ Err f → NotShort f) → charged w s r ≡ Err f → NotShort f
 charged-err w s (Err g) f k e = k (let q : g ≡ f = cc in ap Err q)
-charged-err w s (Ok n) f k e = refusing (ltb 65535 (s.allowance + charge_of w s.degree)) (refuse Worn (charge_of w s.degree)) f _ worn-no (ok-err _ f) e
+charged-err w s (Ok n) f k e = refusing (ltb 65535 (s.allowance + charge_of w s.degree)) (refuse Worn (charge_of w s.degree)) f _ (λ e. cc) (ok-err _ f) e
 
 pub after-err : (w : Working) (s : Survey) (f : Fault) → after w s ≡ Err f → f.refusal ≡ Short → ⊥
 after-err w s f e = charged-err w s (tested w s.degree) f (tested-err w s.degree f) e

@@ -1,1 +1,3 @@
 pub mod Workings
+pub mod Surveys
+pub mod Charges

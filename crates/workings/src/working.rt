@@ -3,11 +3,13 @@ ghost use Rattle.points.specs.Refusals.{refuse};
 ghost use Rattle.points.specs.declared.fault.Refusal.TheVariants.{OffScale};
 ghost use Rattle.workings.specs.Workings.{off_scale_in, charge_of, next_degree, tested, after};
 
-use crate::survey::Survey;
-use points::fault::{Fault, Refusal};
+use crate::survey::{Survey, add_charge};
+use points::fault::Fault;
 use points::parameter::Parameter;
+use polygons::size::test_range;
 
 // What can be done to a control polygon: its left part at a parameter, its right part, one degree more, or the points in the other order.
+// A file or a caller names it and it is kept, so it is data, and a match picks the call.
 #[derive(Clone, Copy, PartialEq, Eq, Debug)]
 pub enum Working {
     Left(Parameter),
@@ -22,16 +24,9 @@ impl Working {
         ensures { result ≡ (if off_scale_in self then Err (refuse OffScale 0) else Ok tt) }
     {
         match self {
-            Working::Left(t) => {
-                t.weight()?;
-            }
-            Working::Right(t) => {
-                t.weight()?;
-            }
-            Working::Raise => {}
-            Working::Turn => {}
+            Working::Left(t) | Working::Right(t) => t.weight().map(|_| ()),
+            Working::Raise | Working::Turn => Ok(()),
         }
-        Ok(())
     }
 
     // What it adds to the allowance of a polygon of this degree: the degree for a part, 1 for a raise, 0 for a turn.
@@ -39,8 +34,7 @@ impl Working {
         ensures { result ≡ charge_of self degree }
     {
         match self {
-            Working::Left(_) => degree,
-            Working::Right(_) => degree,
+            Working::Left(_) | Working::Right(_) => degree,
             Working::Raise => 1,
             Working::Turn => 0,
         }
@@ -61,13 +55,9 @@ impl Working {
         ensures { result ≡ tested self degree }
     {
         self.test_parameter()?;
-        if degree < 1 || degree > 16 {
-            return Err(Fault::new(Refusal::Degree, degree));
-        }
+        test_range(degree, 1, 16)?;
         let after = self.degree_after(degree);
-        if after > 16 {
-            return Err(Fault::new(Refusal::Degree, after));
-        }
+        test_range(after, 1, 16)?;
         Ok(after)
     }
 
@@ -77,15 +67,11 @@ impl Working {
     {
         let degree = self.test(below.degree)?;
         let charge = self.charge(below.degree);
-        let allowance = below.allowance as usize + charge;
-        if allowance > 65535 {
-            return Err(Fault::new(Refusal::Worn, charge));
-        }
-        let reach = below.reach.max(degree + 1);
+        let allowance = add_charge(below.allowance, charge)?;
         Ok(Survey {
             degree,
-            allowance: allowance as u16,
-            reach,
+            allowance,
+            reach: below.reach.max(degree + 1),
         })
     }
 }

@@ -1,11 +1,8 @@
 use Rattle.std.proofs.Common.{◌≡◌, ◌-◌, length, ◌∙◌, arith}
 use Rattle.std.proofs.lemmas.List.{length-map, length-set}
 use Rattle.polygons.proofs.Writes.{read_is}
-use Rattle.polygons.proofs.Raises.{raising, top-more, from-top-none, raised_all}
+use Rattle.polygons.proofs.Raises.{raising, top-more, raised_all}
 use Rattle.polygons.proofs.elevation.raise_all.Goals as goal
-
-pub loop-i-init : goal.loop-i-init
-loop-i-init g c = (omega arith, from-top-none _ _)
 
 pub loop-i-preserved : goal.loop-i-preserved
 loop-i-preserved g c =

@@ -1,32 +1,22 @@
-use Rattle.std.proofs.Common.{◌++◌, map, length, take, ap, ◌∙◌, arith}
-use Rattle.std.proofs.lemmas.List.{length-map, length-set, length-take-le, take-set}
-use Rattle.exact.specs.Polygon.{left, right}
-use Rattle.points.specs.Points.{mix_point}
-use Rattle.polygons.proofs.Splits.{begun, continued, both-all}
+use Rattle.std.proofs.Common.{◌-◌, length, arith}
+use Rattle.std.proofs.lemmas.List.{length-map, length-set}
+use Rattle.polygons.proofs.Levels.{right-all}
+use Rattle.polygons.proofs.Splits.{both-none, both-next, both-left}
 use Rattle.polygons.proofs.subdivision.both_parts.Goals as goal
 
-pub loop-r-init : goal.loop-r-init
-loop-r-init g c = begun g.K.Kind.coord _ c.args.points c.args.two.now c.index-two-0.result c.requires.0 (omega arith) c.index-two-0.is
+pub loop-n-init : goal.loop-n-init
+loop-n-init g c = both-none g.K.Kind.coord _ c.args.polygon.now c.args.left.now c.index-polygon-0.result _ (omega arith) (omega arith) (omega arith) c.index-polygon-0.is
 
-pub loop-r-preserved : goal.loop-r-preserved
-loop-r-preserved g c =
-    let n = c.args.points in
-    let xs = c.args.two.now in
-    let x = c.index-two-0.result in
-    let long = c.loop-r.auto.two in
-    let set_long = length-set xs n x in
-    continued g.K.Kind.coord _ n _ c.loop-r.two c.mix_level.new.p c.index-two-0-in-loop-r.result c.loop-r.r _
-    (length-map _ g.K.Kind.coord ∙ ap length (take-set xs n x) ∙ length-take-le n xs (omega arith)) (omega (arith, c.mix_level.auto.p)) (omega arith) c.loop-r-test.true (omega arith)
-    c.loop-r.invariant c.mix_level.ensures.passes c.index-two-0-in-loop-r.is
+pub loop-n-preserved : goal.loop-n-preserved
+loop-n-preserved g c =
+    let n = length c.args.polygon.now in
+    let set_long = length-set c.args.left.now 0 c.index-polygon-0.result in
+    both-next g.K.Kind.coord _ _ _ c.mix_level.new.p _ _ (n - c.loop-n.n) _ (c.loop-n.n - 1) (omega arith) (simp length-map (omega arith)) (simp length-map (omega arith)) (simp length-map (omega arith)) (omega arith) c.loop-n.invariant c.mix_level.ensures.passes c.index-polygon-0-in-loop-n.is
 
-pub returns : goal.returns
-returns g c =
-    let n = c.args.points in
-    let xs = c.args.two.now in
-    let x = c.index-two-0.result in
-    let f = mix_point c.args.w.num c.args.w.den in
-    let lp = length-map (take n xs) g.K.Kind.coord ∙ length-take-le n xs (omega arith) in
-    let e = ap (map g.K.Kind.coord) (take-set xs n x) in
-    let le = ap length e in
-    let set_long = length-set xs n x in
-    both-all f _ _ _ (omega arith) (length-map c.loop-r.two g.K.Kind.coord ∙ omega (arith, c.loop-r.auto.two)) (omega arith) c.loop-r.invariant ∙ ap (λ ps. right f ps ++ left f ps) e
+pub returns-clause-right : goal.returns-clause-right
+returns-clause-right g c = right-all _ _ _ (length c.args.polygon.now - c.loop-n.n) (simp length-map (omega arith)) (simp length-map (omega arith)) c.loop-n.invariant.done
+
+pub returns-clause-left : goal.returns-clause-left
+returns-clause-left g c =
+    let set_long = length-set c.args.left.now 0 c.index-polygon-0.result in
+    both-left _ _ _ _ (length c.args.polygon.now - c.loop-n.n) (simp length-map (omega arith)) (simp length-map (omega arith)) c.loop-n.invariant

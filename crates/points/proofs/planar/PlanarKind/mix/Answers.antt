@@ -1,5 +1,7 @@
+use Rattle.std.proofs.Common.{arith}
+use Rattle.std.proofs.lemmas.Int.{to_z-of_z}
 use Rattle.points.proofs.Mixes.{planar-mixed}
 use Rattle.points.proofs.planar.PlanarKind.mix.Goals as goal
 
 pub returns : goal.returns
-returns c = planar-mixed c.args.w.num c.args.w.den c.args.p c.args.q _ c.args.w.weighs.0 c.mix_planar.ensures.0 c.mix_planar.ensures.1
+returns c = planar-mixed c.args.w.num c.args.w.den c.args.p c.args.q _ c.args.w.weighs.0 (grind (arith, to_z-of_z)) (grind (arith, to_z-of_z))
