@@ -1,20 +1,26 @@
 -- Lazy answers, refuted by the chord bound alone.
-use Rattle.std.proofs.Common.{◌≡◌, ℕ, zero, suc, ◌+◌, ◌-◌, ◌*◌, ◌^◌, ◌<◌, ◌≤◌, List, [], ◌∷◌, map, get_or, pos, refl, subst, arith, pow_mono}
+use Rattle.std.proofs.Common.{◌≡◌, ℕ, zero, suc, ◌+◌, ◌-◌, ◌*◌, ◌^◌, ◌<◌, ◌≤◌, List, [], ◌∷◌, map, get_or, ℤ, pos, refl, subst, arith, pow_mono}
 use borrow.Author.Differences.{ints}
 use Rattle.exact.specs.Fractions.{whole, WithinHalf, HalfApart}
 use Rattle.exact.specs.Curve.{exact}
 use Rattle.exact.specs.Workings.{carried}
 use Rattle.exact.specs.Spans.{mark, evenly}
+use Rattle.exact.proofs.Ring.{gap_same}
+use Rattle.exact.proofs.Curve.{one-*}
 use Rattle.sources.specs.Meaning.{in_memory}
 use Rattle.sources.specs.Accuracy.{Drawing, along, Stands}
 use Rattle.flattening.specs.Values.{heights}
 use Rattle.flattening.specs.Bites.{ChordsBite}
 
+-- a whole number is within any half of itself
+pub close : (e : ℕ) (z : ℤ) → WithinHalf e z (whole z)
+close e z = record { half = rw (one-* z) (omega (arith, gap_same z)) }
+
 -- heights, each as drawn
 drawn : List ℕ → Drawing
 drawn zs = map (λ z _. whole (pos z)) zs
 
-depth-none : (d : ℕ) → 4096 ≡ 0 + 2 ^ (12 - d) → d ≡ 0
+pub depth-none : (d : ℕ) → 4096 ≡ 0 + 2 ^ (12 - d) → d ≡ 0
 depth-none zero e = refl
 depth-none (suc d) e = let h : 2 ^ (12 - suc d) ≤ 2 ^ 11 = pow_mono {j = 11} (omega arith) in absurd (omega (arith, h, e))
 

@@ -1,7 +1,7 @@
 -- Flattening, from what survey tells and what the two walks do.
-use Rattle.std.proofs.Common.{◌≡◌, ℕ, ◌+◌, ◌-◌, ◌*◌, ◌<◌, ◌≤◌, max, Bool, true, false, cond, ◌||◌, ltb, ◌⊎◌, List, [], ◌∷◌, ◌++◌, map, length, get_or, take, drop, set, Ok, Err, Result, sym, refl, ap, ◌∙◌, subst, ⊎_elim, zero-add, arith}
-use Rattle.std.proofs.lemmas.Bool.{le-ltb, lt-ltb, or_from}
-use Rattle.std.proofs.lemmas.List.{length-map, length-take-le, take-map, take_at, drop_at, take-append-drop, map-append, map-id, get_or-take}
+use Rattle.std.proofs.Common.{◌≡◌, ℕ, ◌+◌, ◌-◌, ◌*◌, ◌≤◌, max, Bool, true, false, cond, ◌||◌, ltb, List, [], ◌∷◌, ◌++◌, map, length, get_or, take, drop, set, Ok, Err, Result, sym, refl, ap, ◌∙◌, subst, zero-add, arith, le-ltb}
+use Rattle.std.specs.Result.{OnOk}
+use Rattle.std.proofs.lemmas.List.{length-append, length-map, length-take-le, take-map, take_at, drop_at, take-append-drop, map-append, map-id, get_or-take}
 use Rattle.std.proofs.lemmas.List.Edits.{sets-eq}
 use Rattle.points.specs.declared.fault.Fault.{Fault}
 use Rattle.points.specs.declared.fault.Refusal.TheVariants.{Short}
@@ -10,81 +10,63 @@ use Rattle.points.specs.Points.{Point, origin}
 use Rattle.polygons.proofs.Writes.{read_is}
 use Rattle.workings.specs.declared.survey.Survey.{Survey}
 use Rattle.sources.proofs.Meanings.{drop-further}
-use Rattle.sources.specs.Meaning.{Meaning, fails, holds, Held, Sound, told, survey_of, Laid}
+use Rattle.sources.specs.Meaning.{Meaning, fails, holds, Held, Fit, Sound, told, survey_of, draw_of, Laid}
 use Rattle.flattening.specs.declared.stack.Stack.{Stack}
-use Rattle.flattening.specs.Pieces.{Piece, end_of, Outcome, bent, kept, pieces, WhenKept}
+use Rattle.flattening.specs.declared.vertices.Vertices.{Vertices}
+use Rattle.flattening.specs.Pieces.{Outcome, bent, kept, pieces, WhenKept}
 use Rattle.flattening.specs.Flat.{flat?, flat_pieces}
-use Rattle.flattening.specs.Vertices.{first_of, last_of, vertices, parameters}
+use Rattle.flattening.specs.Vertices.{first_of, ends, marks, vertices, parameters}
 use Rattle.flattening.specs.Stacks.{top_of}
-use Rattle.flattening.specs.Walks.{counted, PutFrom}
-use Rattle.flattening.specs.Flattening.{needed, judged, flatten_of, decided, Freed, vertices_of, parameters_of, PutsFirst, Drawable, Stackable, PastNeeded, walk_of, PutsSome}
+use Rattle.flattening.specs.Walks.{PutFrom, Adds, walked, Walk}
+use Rattle.flattening.specs.Flattening.{needed, judged, decided, vertices_of, parameters_of, PutsFirst, Stackable, PastNeeded, walk_of}
 use Rattle.flattening.specs.Chords.{ChordBound}
-use Rattle.flattening.proofs.Puts.{put_one, put-more}
-use Rattle.flattening.proofs.Walks.{Walk, kept_from, bent-from}
+use Rattle.flattening.proofs.Puts.{put-length, adds_one, adds-more}
 use Rattle.flattening.proofs.Bound.{chords-kept}
-
-clash : {A : Type 0} (s : Survey) (f : Fault) → ◌≡◌ {A = Result Survey Fault} (Ok s) (Err f) → A
-clash s f q = let z : ◌≡◌ {A = ℕ} 0 1 = cc in absurd (omega arith)
 
 told_is : (s : Survey) (h : Held) → Ok s ≡ survey_of (holds h) → (s.degree ≡ length h.points - 1) × (s.reach ≡ h.reach)
 told_is s h t = let k : s ≡ told h = cc in (ap (λ v. v.degree) k, ap (λ v. v.reach) k)
 
--- a source that was surveyed can be walked on a buffer that is long enough
-pub drawable : (m : Meaning) (s : Survey) (w : ℕ) → Sound m → Ok s ≡ survey_of m → max s.reach 221 ≤ w → (2 ≤ s.degree + 1) × (s.degree + 1 ≤ 17) × Drawable m (s.degree + 1) w
-drawable (fails f) s w d t l = clash s f t
-drawable (holds h) s w d t l = let k = told_is s h t in (omega arith, omega arith, (omega arith, omega arith))
+-- a source that was surveyed can be walked on a buffer that begins with places enough to draw on and for the stack
+pub stackable : {X : Type 0} (m : Meaning) (s : Survey) (count : ℕ) (xs ys : List X) → Sound m → Ok s ≡ survey_of m → max s.reach (13 * (s.degree + 1)) ≤ length xs → count ≡ 0 → Stackable m (length (xs ++ ys)) × (count ≡ 0)
+stackable (fails f) s count xs ys d t l z = cc
+stackable (holds h) s count xs ys d t l z = let k = told_is s h t in let e = length-append xs ys in ((omega arith, omega (arith, d.some)), z)
 
--- such a buffer is long enough to draw on and for the stack
-pub stackable : (m : Meaning) (size w : ℕ) → size ≤ 17 → Drawable m size w → Stackable m size w
-stackable (fails f) size w l d = absurd d
-stackable (holds h) size w l d = (d.0, omega arith, omega arith)
+-- how many points were drawn
+drawn-size : (h : Held) (s : Survey) (places : ℕ) → Fit h → h.reach ≤ places → Ok s ≡ draw_of (holds h) places → s.degree + 1 ≡ length h.points
+drawn-size h s places d l e =
+    let k = told_is s h (e ∙ ap (λ b. cond b (Err (refuse Short h.reach)) (Ok (told h))) (le-ltb places h.reach l)) in
+    omega (arith, k.0, d.some)
 
--- what was walked on it is freed
-pub freed : {K : Type 0} (m : Meaning) (size : ℕ) (bs bs' : List K) → Drawable m size (length bs) → PastNeeded m bs bs' → Freed m bs bs'
-freed (fails f) size bs bs' d p = absurd d
-freed (holds h) size bs bs' d p = ((λ (l : length bs < needed h). absurd (omega arith)), p)
-
--- what a walk over a source answers and puts: its answer r, the vertex points from xs to xs' and their parameters from ms to ms'
-pub record Putting {K : Type 0} (c : K → Point) (width : ℕ) (tol : ℕ → ℕ) (m : Meaning) (r : Result ℕ Fault) (xs xs' : List K) (ms ms' : List ℕ) : Type 0 where
+-- what a walk over a source does: it answers r, and leaves bs' for its buffer bs, and w for the vertices v
+pub record Ran {K : Type 0} (c : K → Point) (width : ℕ) (tol : ℕ → ℕ) (m : Meaning) (bs bs' : List K) (v w : Vertices K) (r : Result (Unit {0}) Fault) : Type 0 where
   pub answer : r ≡ walk_of width tol m
-  pub points : PutsSome c (vertices_of width tol m) r xs xs'
-  pub parameters : PutsSome (λ t. t) (parameters_of width tol m) r ms ms'
-
--- and what it leaves of its buffer, from bs to bs'
-pub record Ran {K : Type 0} (c : K → Point) (width : ℕ) (tol : ℕ → ℕ) (m : Meaning) (r : Result ℕ Fault) (bs bs' xs xs' : List K) (ms ms' : List ℕ) : Type 0 where
   pub past : PastNeeded m bs bs'
-  pub puts : Putting c width tol m r xs xs' ms ms'
+  pub vertices : OnOk r (Adds c (vertices_of width tol m) (parameters_of width tol m) v w)
 
--- the first value, and then those of the pieces
-put_some : {X Y : Type 0} (c : X → Y) (o : Outcome) (r : Result ℕ Fault) (first : Y) (f : Piece → Y) (ys : Outcome → List Y) (xs mid xs' : List X) → ((s : ℕ) → ys (bent s) ≡ []) → ((ps : List Piece) → ys (kept ps) ≡ first ∷ map f ps)
-    → r ≡ counted o 1 → PutFrom c 0 (first ∷ []) xs mid → WhenKept o (λ ps. PutFrom c 1 (map f ps) mid xs') → PutsSome c (ys o) r xs xs'
-put_some c (bent s) r first f ys xs mid xs' eb ek e p q = subst (λ r. PutsSome c (ys (bent s)) r xs xs') (sym e) tt
-put_some c (kept ps) r first f ys xs mid xs' eb ek e p q =
-    subst (λ r. PutsSome c (ys (kept ps)) r xs xs') (sym e) (subst (λ zs. PutFrom c 0 zs xs xs') (sym (ek ps)) (put-more c 0 1 (first ∷ []) (map f ps) xs mid xs' refl p q))
+-- the first vertex, and then those of the pieces
+first-then : {K : Type 0} (c : K → Point) (ps : List Point) (o : Outcome) (r : Result (Unit {0}) Fault) (u v w : Vertices K) → r ≡ walked o → Adds c (first_of ps ∷ []) (0 ∷ []) u v → WhenKept o (λ xs. Adds c (ends xs) (marks xs) v w)
+    → OnOk r (Adds c (vertices ps o) (parameters o) u w)
+first-then c ps (bent s) r u v w e p q = subst (λ r. OnOk r (Adds c [] [] u w)) (sym e) tt
+first-then c ps (kept xs) r u v w e p q = subst (λ r. OnOk r (Adds c (first_of ps ∷ ends xs) (0 ∷ marks xs) u w)) (sym e) (adds-more c (first_of ps ∷ []) (ends xs) (0 ∷ []) (marks xs) u v w p q)
 
--- the polygon was drawn on b, its first point put on ys, and the walk from s to t went over it
-module _ {K : Type 0} (c : K → Point) (width : ℕ) (tol : ℕ → ℕ) (size : ℕ) (bs b xs ys xs' : List K) (ms ns ms' : List ℕ) (v : K) (s t : Stack K) (r : Result ℕ Fault) where
-  pub ran : (m : Meaning) → 2 ≤ size → size ≤ 17 → Stackable m size (length bs) → Laid c m bs b → length b ≡ length bs → v ≡ get_or b 0 v → ys ≡ set xs 0 v → ns ≡ set ms 0 0
-      → s.buffer.now ≡ b → s.size ≡ size → s.used ≡ size → Walk c (pieces (flat? width tol) 12 0 (map c (top_of s))) 12 1 s t r ys xs' ns ms'
-      → Ran c width tol m r bs t.buffer.now xs xs' ms ms'
-  ran (fails f) l1 l2 d laid lb ev ex em eb es eu w = absurd d
-  ran (holds h) l1 l2 d laid lb ev ex em eb es eu w =
-      let o : Outcome = flat_pieces width tol h.points in
+-- the polygon was drawn on b, its first point was added to the vertices, and the walk from s to t went over it
+module _ {K : Type 0} (c : K → Point) (width : ℕ) (tol : ℕ → ℕ) (survey : Survey) (bs b : List K) (u v w : Vertices K) (x : K) (s t : Stack K) (r : Result (Unit {0}) Fault) where
+  pub ran : (m : Meaning) → Sound m → Stackable m (length bs) → Ok survey ≡ draw_of m (length bs) → Laid c m bs b → length b ≡ length bs → x ≡ get_or b 0 x
+      → v.count ≡ u.count + 1 → v.points.now ≡ set u.points.now u.count x → v.parameters.now ≡ set u.parameters.now u.count 0
+      → s.buffer.now ≡ b → s.size ≡ survey.degree + 1 → s.used ≡ survey.degree + 1 → Walk c (pieces (flat? width tol) 12 0 (map c (top_of s))) 12 s t v w r
+      → Ran c width tol m bs t.buffer.now u w r
+  ran (fails f) l d e laid lb ex en exs ems eb es eu k = absurd d
+  ran (holds h) l d e laid lb ex en exs ems eb es eu k₁ =
+      let size : ℕ = survey.degree + 1 in
+      let is : size ≡ length h.points = drawn-size h survey (length bs) l d.0 e in
       let low = laid.1 (omega arith) in
       let zero_left : s.used - s.size ≡ 0 = omega arith in
-      let held : map c (take size b) ≡ h.points = ap (λ n. map c (take n b)) (sym d.0) ∙ low.0 in
+      let held : map c (take size b) ≡ h.points = ap (λ n. map c (take n b)) is ∙ low.0 in
       let top : map c (top_of s) ≡ h.points = ap (λ n. map c (drop n (take s.used s.buffer.now))) zero_left ∙ ap (λ n. map c (take n s.buffer.now)) eu ∙ ap (λ z. map c (take size z)) eb ∙ held in
-      let k = subst (λ ps. Walk c (pieces (flat? width tol) 12 0 ps) 12 1 s t r ys xs' ns ms') top w in
-      let first : c v ≡ first_of h.points = read_is c b 0 v (omega arith) ev ∙ sym (get_or-take size (map c b) 0 origin (omega arith)) ∙ ap first_of (take-map c size b ∙ held) in
-      let past : drop (needed h) t.buffer.now ≡ drop (needed h) bs = drop-further t.buffer.now s.buffer.now (s.used + 12 * s.size) (needed h) (omega arith) k.stack.above ∙ ap (drop (needed h)) eb ∙ drop-further b bs h.reach (needed h) (omega arith) low.1 in
-      record {
-        past = past;
-        puts = record {
-          answer = k.answer;
-          points = put_some c o r (first_of h.points) (λ x. last_of x.points) (vertices h.points) xs ys xs' (λ _. refl) (λ _. refl) k.answer (put_one c 0 (first_of h.points) v xs ys ex first) k.points;
-          parameters = put_some (λ t. t) o r 0 end_of parameters ms ns ms' (λ _. refl) (λ _. refl) k.answer (put_one (λ t. t) 0 0 0 ms ns em refl) k.parameters;
-        };
-      }
+      let k = subst (λ ps. Walk c (pieces (flat? width tol) 12 0 ps) 12 s t v w r) top k₁ in
+      let first : c x ≡ first_of h.points = read_is c b 0 x (omega arith) ex ∙ sym (get_or-take size (map c b) 0 origin (omega arith)) ∙ ap first_of (take-map c size b ∙ held) in
+      let past : drop (needed h) t.buffer.now ≡ drop (needed h) bs = drop-further t.buffer.now s.buffer.now (s.used + 12 * s.size) (needed h) (omega (arith, s.most)) k.stack.above ∙ ap (drop (needed h)) eb ∙ drop-further b bs h.reach (needed h) (omega arith) low.1 in
+      record { answer = k.answer; past = past; vertices = first-then c h.points (flat_pieces width tol h.points) r u v w k.answer (adds_one c u v x (first_of h.points) 0 0 en exs ems first refl) k.vertices }
 
 -- values that were put on a buffer that is long enough
 puts-all : {X Y : Type 0} (c : X → Y) (ys : List Y) (n : ℕ) (xs xs' : List X) → length ys ≡ n → n ≤ length xs → PutFrom c 0 ys xs xs' → PutsFirst c ys (Ok n) xs xs'
@@ -99,105 +81,42 @@ begins : {X Y : Type 0} (c : X → Y) (ys : List Y) (n : ℕ) (xs xs' : List X) 
 begins c ys n xs xs' p = ap (map c) (sym (take-append-drop (length ys) xs')) ∙ map-append c (take (length ys) xs') (drop (length ys) xs') ∙ ap (λ z. z ++ map c (drop (length ys) xs')) p.0
 
 -- what stands first on one buffer was copied to another
-copied : {X Y : Type 0} (c : X → Y) (ys : List Y) (n : ℕ) (ws ws' xs xs' : List X) → length ys ≡ n → n ≤ length ws → n ≤ length ws' → PutFrom c 0 ys ws ws' → xs' ≡ take n ws' ++ drop n xs → PutsFirst c ys (Ok n) xs xs'
-copied c ys n ws ws' xs xs' e l l' p q =
-    let w = puts-all c ys n ws ws' e l p in
-    let lt : length (take n ws') ≡ n = length-take-le n ws' l' in (
+copied : {X Y : Type 0} (c : X → Y) (ys : List Y) (n : ℕ) (ws ws' xs xs' : List X) → length ys ≡ n → n ≤ length ws' → PutFrom c 0 ys ws ws' → xs' ≡ take n ws' ++ drop n xs → PutsFirst c ys (Ok n) xs xs'
+copied c ys n ws ws' xs xs' e l p q =
+    let w = puts-all c ys n ws ws' e (omega (arith, put-length c 0 ys ws ws' p)) p in
+    let lt : length (take n ws') ≡ n = length-take-le n ws' l in (
       ap (λ k. map c (take k xs')) e ∙ ap (λ z. map c (take n z)) q ∙ ap (map c) (take_at (take n ws') (drop n xs) n lt) ∙ ap (λ k. map c (take k ws')) (sym e) ∙ w.0,
       ap (λ k. drop k xs') e ∙ ap (drop n) q ∙ drop_at (take n ws') (drop n xs) n lt ∙ ap (λ k. drop k xs) (sym e),
     )
 
--- the clauses of a flattening on the places needed
-pub record Within {K : Type 0} (c : K → Point) (width : ℕ) (tol : ℕ → ℕ) (m : Meaning) (r : Result ℕ Fault) (xs xs' : List K) (ms ms' : List ℕ) : Type 0 where
-  pub answer : r ≡ decided width tol m (length xs) (length ms)
-  pub points : PutsFirst c (vertices_of width tol m) r xs xs'
-  pub parameters : PutsFirst (λ t. t) (parameters_of width tol m) r ms ms'
+-- n vertices, at the points ps with the parameters ms, were added to none, from a to b
+module _ {K : Type 0} (c : K → Point) (ps : List Point) (ms : List ℕ) (a b : Vertices K) (n : ℕ) (none : a.count ≡ 0) (adds : Adds c ps ms a b) (many : length ps ≡ n) where
+  from-none : PutFrom c 0 ps a.points.now b.points.now
+  from-none = subst (λ i. PutFrom c i ps a.points.now b.points.now) none adds.points
 
-module _ {K : Type 0} (c : K → Point) (width : ℕ) (tol : ℕ → ℕ) (s : Survey) (xs : List K) (ms : List ℕ) where
-  -- the walk met a bent piece
-  pub within-bent : (m : Meaning) (f : Fault) → Ok s ≡ survey_of m → Err f ≡ walk_of width tol m → Within c width tol m (Err f) xs xs ms ms
-  within-bent (fails g) f t e = clash s g t
-  within-bent (holds h) f t e =
-      let o : Outcome = flat_pieces width tol h.points in
-      let b = bent-from o 1 f e in
-      record {
-        answer = e ∙ ap (λ o. counted o 1) b.1 ∙ sym (ap (λ o. judged o (length xs) (length ms)) b.1);
-        points = refl;
-        parameters = refl;
-      }
+  marks-from-none : PutFrom (λ m. m) 0 ms a.parameters.now b.parameters.now
+  marks-from-none = subst (λ i. PutFrom (λ m. m) i ms a.parameters.now b.parameters.now) none adds.parameters
 
-  module _ (n : ℕ) where
-    judges : (o : Outcome) → Ok n ≡ counted o 1 → judged o (length xs) (length ms) ≡ cond (ltb (length xs) n || ltb (length ms) n) (Err (refuse Short n)) (Ok n)
-    judges o e =
-        let k = kept_from o 1 n e in
-        ap (λ o. judged o (length xs) (length ms)) k.1 ∙ ap (λ n. cond (ltb (length xs) n || ltb (length ms) n) (Err (refuse Short n)) (Ok n)) (sym k.2)
+  -- they all have places
+  pub added_points : n ≤ length a.points.now → PutsFirst c ps (Ok n) a.points.now b.points.now
+  added_points l = puts-all c ps n _ _ many l from-none
 
-    short : (length xs < n) ⊎ (length ms < n) → (ltb (length xs) n || ltb (length ms) n) ≡ true
-    short h = ⊎_elim (λ l. ap (λ b. b || ltb (length ms) n) (lt-ltb (length xs) n l)) (λ l. or-true (ltb (length xs) n) (ltb (length ms) n) (lt-ltb (length ms) n l)) h
-      where
-        or-true : (a b : Bool) → b ≡ true → (a || b) ≡ true
-        or-true true b e = refl
-        or-true false b e = e
+  pub added_parameters : n ≤ length a.parameters.now → PutsFirst (λ m. m) ms (Ok n) a.parameters.now b.parameters.now
+  added_parameters l = puts-all (λ m. m) ms n _ _ (omega (arith, many, adds.even)) l marks-from-none
 
-    -- it counted n vertices, and a vertex buffer is shorter
-    pub within-short : (m : Meaning) → Ok s ≡ survey_of m → Ok n ≡ walk_of width tol m → (length xs < n) ⊎ (length ms < n) → Within c width tol m (Err (refuse Short n)) xs xs ms ms
-    within-short (fails g) t e p = clash s g t
-    within-short (holds h) t e p = record {
-      answer = sym (judges (flat_pieces width tol h.points) e ∙ ap (λ b. cond b (Err (refuse Short n)) (Ok n)) (short p));
-      points = refl;
-      parameters = refl;
-    }
+  -- they were copied to others
+  module _ (v w : Vertices K) where
+    pub copied_points : n ≤ length b.points.now → w.points.now ≡ take n b.points.now ++ drop n v.points.now → PutsFirst c ps (Ok n) v.points.now w.points.now
+    copied_points l e = copied c ps n _ _ _ _ many l from-none e
 
-    -- how many vertices and parameters there are
-    many : (h : Held) → Ok n ≡ walk_of width tol (holds h) → (length (vertices_of width tol (holds h)) ≡ n) × (length (parameters_of width tol (holds h)) ≡ n)
-    many h e =
-        let k = kept_from (flat_pieces width tol h.points) 1 n e in
-        let ps = k.0 in (
-          ap (λ o. length (vertices h.points o)) k.1 ∙ omega (arith, k.2, length-map ps (λ x. last_of x.points)),
-          ap (λ o. length (parameters o)) k.1 ∙ omega (arith, k.2, length-map ps end_of),
-        )
+    pub copied_parameters : n ≤ length b.parameters.now → w.parameters.now ≡ take n b.parameters.now ++ drop n v.parameters.now → PutsFirst (λ m. m) ms (Ok n) v.parameters.now w.parameters.now
+    copied_parameters l e = copied (λ m. m) ms n _ _ _ _ (omega (arith, many, adds.even)) l marks-from-none e
 
-    fits : (o : Outcome) → Ok n ≡ counted o 1 → n ≤ length xs → n ≤ length ms → Ok n ≡ judged o (length xs) (length ms)
-    fits o e lx lm = sym (judges o e ∙ ap (λ b. cond b (Err (refuse Short n)) (Ok n)) (or_from (ltb (length xs) n) (ltb (length ms) n) (le-ltb (length xs) n lx) (le-ltb (length ms) n lm)))
-
-    -- both are long enough, and the vertices that waited were copied
-    pub within-copied : (m : Meaning) (ws ws' xs' : List K) (ns ns' ms' : List ℕ) → Ok s ≡ survey_of m → n ≤ length xs → n ≤ length ms → n ≤ length ws → n ≤ length ns → n ≤ length ws' → n ≤ length ns' → Putting c width tol m (Ok n) ws ws' ns ns' → xs' ≡ take n ws' ++ drop n xs → ms' ≡ take n ns' ++ drop n ms → Within c width tol m (Ok n) xs xs' ms ms'
-    within-copied (fails g) ws ws' xs' ns ns' ms' t lx lm lw ln lw' ln' w ex em = clash s g t
-    within-copied (holds h) ws ws' xs' ns ns' ms' t lx lm lw ln lw' ln' w ex em =
-        let l = many h w.answer in
-        record {
-          answer = fits (flat_pieces width tol h.points) w.answer lx lm;
-          points = copied c _ n ws ws' xs xs' l.0 lw lw' w.points ex;
-          parameters = copied (λ t. t) _ n ns ns' ms ms' l.1 ln ln' w.parameters em;
-        }
-
-    -- both are long enough, and were walked onto
-    pub within-walked : (m : Meaning) (r : Result ℕ Fault) (xs' : List K) (ms' : List ℕ) → Ok s ≡ survey_of m → n ≤ length xs → n ≤ length ms → Ok n ≡ walk_of width tol m → Putting c width tol m r xs xs' ms ms' → Within c width tol m r xs xs' ms ms'
-    within-walked (fails g) r xs' ms' t lx lm e w = clash s g t
-    within-walked (holds h) r xs' ms' t lx lm e w₁ =
-        let q : r ≡ Ok n = w₁.answer ∙ sym e in
-        let w = subst (λ r. Putting c width tol (holds h) r xs xs' ms ms') q w₁ in
-        let l = many h e in
-        subst (λ r. Within c width tol (holds h) r xs xs' ms ms') (sym q) (record {
-          answer = fits (flat_pieces width tol h.points) e lx lm;
-          points = puts-all c _ n xs xs' l.0 lx w.points;
-          parameters = puts-all (λ t. t) _ n ms ms' l.1 lm w.parameters;
-        })
-
--- the clauses of flatten
-pub record Flattened {K : Type 0} (c : K → Point) (width : ℕ) (tol : ℕ → ℕ) (m : Meaning) (r : Result ℕ Fault) (bs bs' xs xs' : List K) (ms ms' : List ℕ) : Type 0 where
-  pub answer : r ≡ flatten_of width tol m (length bs) (length xs) (length ms)
-  pub working : Freed m bs bs'
-  pub points : PutsFirst c (vertices_of width tol m) r xs xs'
-  pub parameters : PutsFirst (λ t. t) (parameters_of width tol m) r ms ms'
-  pub chords : ChordBound width tol m r (map c xs') ms'
-
-module _ {K : Type 0} (c : K → Point) (width : ℕ) (tol : ℕ → ℕ) (s : Survey) (bs bs' xs xs' : List K) (ms ms' : List ℕ) where
-  -- an accepted flattening has its chords
-  chorded : (h : Held) (o : Outcome) (r : Result ℕ Fault) → 2 ≤ length h.points → flat_pieces width tol h.points ≡ o → r ≡ judged o (length xs) (length ms) → PutsFirst c (vertices h.points o) r xs xs' → PutsFirst (λ t. t) (parameters o) r ms ms' → ChordBound width tol (holds h) r (map c xs') ms'
-  chorded h o (Err f) l eo e pv pt = tt
-  chorded h (bent b) (Ok n) l eo e pv pt = let z : ◌≡◌ {A = ℕ} 0 1 = cc in absurd (omega arith)
-  chorded h (kept ps) (Ok n) l eo e pv pt =
+module _ {K : Type 0} (c : K → Point) (width : ℕ) (tol : ℕ → ℕ) (xs xs' : List K) (ms ms' : List ℕ) where
+  -- an accepted flattening of pieces has its chords
+  of-pieces : (h : Held) (o : Outcome) (n : ℕ) → 2 ≤ length h.points → flat_pieces width tol h.points ≡ o → Ok n ≡ judged o (length xs) (length ms) → PutsFirst c (vertices h.points o) (Ok n) xs xs' → PutsFirst (λ t. t) (parameters o) (Ok n) ms ms' → ChordBound width tol (holds h) (Ok n) (map c xs') ms'
+  of-pieces h (bent b) n l eo e pv pt = cc
+  of-pieces h (kept ps) n l eo e pv pt =
       let en : n ≡ 1 + length ps = passed (ltb (length xs) (1 + length ps) || ltb (length ms) (1 + length ps)) n (1 + length ps) e in
       let bv = begins c (vertices h.points (kept ps)) n xs xs' pv in
       let bt = begins (λ t. t) (parameters (kept ps)) n ms ms' pt in
@@ -205,19 +124,11 @@ module _ {K : Type 0} (c : K → Point) (width : ℕ) (tol : ℕ → ℕ) (s : S
       (chords-kept width tol h l ps eo (map c (drop (length (vertices h.points (kept ps))) xs')) (map (λ t. t) (drop (length (parameters (kept ps))) ms')) (map c xs') ms' bv (sym (map-id ms') ∙ bt))
     where
       passed : (b : Bool) (n k : ℕ) → Ok n ≡ cond b (Err (refuse Short k)) (Ok k) → n ≡ k
-      passed true n k e = let z : ◌≡◌ {A = ℕ} 0 1 = cc in absurd (omega arith)
+      passed true n k e = cc
       passed false n k e = cc
 
-  -- from what was done on the places needed, the first k of the working buffer
-  pub flattened : (m : Meaning) (r : Result ℕ Fault) (k : ℕ) (part : List K) → Sound m → Ok s ≡ survey_of m → k ≡ max s.reach 221 → k ≤ length bs → bs' ≡ part ++ drop k bs → length part ≡ k → Within c width tol m r xs xs' ms ms' → Flattened c width tol m r bs bs' xs xs' ms ms'
-  flattened (fails g) r k part d t ek l eb lp w = clash s g t
-  flattened (holds h) r k part d t ek l eb lp w =
-      let q = told_is s h t in
-      let n : needed h ≡ k = sym (ek ∙ ap (λ x. max x 221) q.1) in
-      record {
-        answer = w.answer ∙ sym (ap (λ b. cond b (Err (refuse Short (needed h))) (judged (flat_pieces width tol h.points) (length xs) (length ms))) (le-ltb (length bs) (needed h) (omega arith)));
-        working = ((λ (i : length bs < needed h). absurd (omega arith)), ap (λ i. drop i bs') n ∙ ap (drop k) eb ∙ drop_at part (drop k bs) k lp ∙ ap (λ i. drop i bs) (sym n));
-        points = w.points;
-        parameters = w.parameters;
-        chords = chorded h (flat_pieces width tol h.points) r d.some refl w.answer w.points w.parameters;
-      }
+  -- and so has one of a source
+  pub chorded : (m : Meaning) (r : Result ℕ Fault) → Sound m → r ≡ decided width tol m (length xs) (length ms) → PutsFirst c (vertices_of width tol m) r xs xs' → PutsFirst (λ t. t) (parameters_of width tol m) r ms ms' → ChordBound width tol m r (map c xs') ms'
+  chorded m (Err f) d e pv pt = tt
+  chorded (fails f) (Ok n) d e pv pt = cc
+  chorded (holds h) (Ok n) d e pv pt = of-pieces h (flat_pieces width tol h.points) n d.some refl e pv pt

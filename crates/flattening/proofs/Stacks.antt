@@ -1,36 +1,21 @@
 -- The top of a stack, and halving it in place.
-use Rattle.std.proofs.Common.{◌≡◌, ℕ, ◌+◌, ◌-◌, ◌≤◌, List, ◌++◌, map, length, get_or, take, drop, Ok, sym, ap, ◌∙◌, arith}
+use Rattle.std.proofs.Common.{◌≡◌, ℕ, ◌+◌, ◌-◌, ◌≤◌, List, ◌++◌, map, length, take, drop, Ok, sym, ap, ◌∙◌, arith}
 use borrow.Rule.Slice.PartMut.{put_mid}
-use Rattle.std.proofs.lemmas.List.{length-map, length-take, length-drop, length-append, get_or-take, get_or-drop, get_or-map, take_all, take-map, drop-map, take_at, drop_at, take-take, drop-drop}
-use Rattle.std.proofs.lemmas.Bool.Decides.{nat_tests}
+use Rattle.std.proofs.lemmas.List.{length-map, length-take, length-drop, length-append, take_all, take-map, drop-map, take_at, drop_at, take-take, drop-drop}
 use Rattle.std.proofs.lemmas.Slice.{take-put_mid_below, drop-put_mid, between-put_mid, between_is}
-use Rattle.points.specs.Points.{Point, origin}
-use Rattle.polygons.specs.Buffers.{Puts, scaled, splittable}
+use Rattle.points.specs.Points.{Point}
+use Rattle.polygons.specs.Buffers.{Puts}
 use Rattle.flattening.specs.declared.stack.Stack.{Stack}
-use Rattle.flattening.specs.Pieces.{half, left_half, right_half}
-use Rattle.flattening.specs.Vertices.{last_of}
+use Rattle.flattening.specs.Pieces.{left_half, right_half}
 use Rattle.flattening.specs.Stacks.{top_of, Topped, Roomy, Halved}
 use Rattle.flattening.proofs.Halves.{length-left, length-right}
 
 pub length-top : {K : Type 0} (s : Stack K) → Topped s → length (top_of s) ≡ s.size
-length-top s h = omega (arith, length-drop (s.used - s.size) (take s.used s.buffer.now), length-take s.used s.buffer.now)
-
--- the last point of the top piece stands in the last of the places in use
-pub last-of-top : {K : Type 0} (c : K → Point) (s : Stack K) (x : K) → Topped s → x ≡ get_or s.buffer.now (s.used - 1) x → c x ≡ last_of (map c (top_of s))
-last-of-top c s x h e =
-    let b = s.buffer.now in
-    let n = length-top s h in
-    let m : length (map c (top_of s)) ≡ s.size = length-map (top_of s) c ∙ n in
-    ap c (e ∙ sym (get_or-take s.used b (s.used - 1) x (omega arith)) ∙ ap (λ i. get_or (take s.used b) i x) (omega arith) ∙ sym (get_or-drop (s.used - s.size) (take s.used b) (length (map c (top_of s)) - 1) x))
-    ∙ sym (get_or-map c (top_of s) (length (map c (top_of s)) - 1) x origin (omega arith))
+length-top s h = omega (arith, s.fits, length-drop (s.used - s.size) (take s.used s.buffer.now), length-take s.used s.buffer.now)
 
 -- a write to a part keeps the length
 pub length-put_mid : {X : Type 0} (a k : ℕ) (xs ys : List X) → a + k ≤ length xs → length ys ≡ k → length (put_mid a k xs ys) ≡ length xs
 length-put_mid a k xs ys h e = omega (arith, length-append (take a xs) (ys ++ drop k (drop a xs)), length-append ys (drop k (drop a xs)), length-drop k (drop a xs), length-drop a xs, length-take a xs)
-
--- a polygon is split at 1/2 wherever there is room
-pub split-ok : (n places : ℕ) → 2 ≤ n → n ≤ 17 → n + n ≤ places → scaled half (splittable n places) ≡ Ok tt
-split-ok n places l m r = grind (arith, nat_tests)
 
 -- The piece in the s places from a on, and the s places above it, were overwritten by Y: its first s places stand in the piece's, the others above.
 module _ {X : Type 0} (xs Y : List X) (a s u k : ℕ) (au : a + s ≡ u) (ks : k ≡ s + s) (room : u + s ≤ length xs) (lY : length Y ≡ s + s) where

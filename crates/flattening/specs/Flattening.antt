@@ -8,7 +8,7 @@ use Rattle.sources.specs.Meaning.{Meaning, fails, holds, Held}
 use Rattle.flattening.specs.Pieces.{Outcome, bent, kept}
 use Rattle.flattening.specs.Flat.{flat_pieces}
 use Rattle.flattening.specs.Vertices.{vertices, parameters}
-use Rattle.flattening.specs.Walks.{counted, PutFrom}
+use Rattle.flattening.specs.Walks.{walked}
 
 -- the places of the working buffer that are needed: 13 pieces of 17 points, or the reach if that is more
 abbrev pub needed : Held → ℕ
@@ -48,26 +48,17 @@ abbrev pub decided : ℕ → (ℕ → ℕ) → Meaning → ℕ → ℕ → Resul
 decided width tol (fails f) points parameters = Err f
 decided width tol (holds h) points parameters = judged (flat_pieces width tol h.points) points parameters
 
--- Within: a source holds a polygon of so many points, and the working buffer is long enough.
-abbrev pub Drawable : Meaning → ℕ → ℕ → Type 0
-Drawable (fails f) size working = ⊥
-Drawable (holds h) size working = (length h.points ≡ size) × (needed h ≤ working)
-
--- The same of the part of it that a walk needs: it is long enough to draw the polygon and to keep a stack of its pieces.
-abbrev pub Stackable : Meaning → ℕ → ℕ → Type 0
-Stackable (fails f) size stack = ⊥
-Stackable (holds h) size stack = (length h.points ≡ size) × (h.reach ≤ stack) × (13 * size ≤ stack)
+-- a source holds a polygon, and a buffer is long enough to draw it and to keep a stack of its pieces
+abbrev pub Stackable : Meaning → ℕ → Type 0
+Stackable (fails f) places = ⊥
+Stackable (holds h) places = (h.reach ≤ places) × (13 * length h.points ≤ places)
 
 -- past the places needed a buffer is as found
 abbrev pub PastNeeded : {X : Type 0} → Meaning → List X → List X → Type 0
 PastNeeded (fails f) before after = Unit {0}
 PastNeeded (holds h) before after = drop (needed h) after ≡ drop (needed h) before
 
--- the answer of a walk over the pieces of a source, and what it puts on a vertex buffer, as far as that is long
-abbrev pub walk_of : ℕ → (ℕ → ℕ) → Meaning → Result ℕ Fault
+-- the answer of a walk over the pieces of a source
+abbrev pub walk_of : ℕ → (ℕ → ℕ) → Meaning → Result (Unit {0}) Fault
 walk_of width tol (fails f) = Err f
-walk_of width tol (holds h) = counted (flat_pieces width tol h.points) 1
-
-abbrev pub PutsSome : {X Y : Type 0} → (X → Y) → List Y → Result ℕ Fault → List X → List X → Type 0
-PutsSome c ys (Ok n) before after = PutFrom c 0 ys before after
-PutsSome c ys (Err f) before after = Unit {0}
+walk_of width tol (holds h) = walked (flat_pieces width tol h.points)

@@ -1,60 +1,42 @@
-ghost use Rattle.std.specs.Prelude.{◌≡◌, ◌≤◌, max, map, length, Ok};
+ghost use Rattle.std.specs.Prelude.{◌≡◌, ◌≤◌, max, map, length, Ok, OnOk};
 ghost use Rattle.sources.specs.Meaning.{survey_of};
-ghost use Rattle.flattening.specs.Flattening.{flatten_of, Freed, vertices_of, parameters_of, PutsFirst, decided, Drawable, Stackable, PastNeeded, walk_of, PutsSome};
+ghost use Rattle.flattening.specs.Flattening.{flatten_of, Freed, vertices_of, parameters_of, PutsFirst, decided, Stackable, PastNeeded, walk_of};
+ghost use Rattle.flattening.specs.Walks.{Adds};
 ghost use Rattle.flattening.specs.Chords.{ChordBound};
 
 use crate::stack::Stack;
-use crate::walk::{put, put_all, walk};
-use points::fault::{Fault, Refusal};
+use crate::vertices::Vertices;
+use crate::walk::walk;
+use points::fault::{Fault, Refusal, test_places};
 use points::kind::Kind;
 use sources::source::Source;
 use workings::survey::Survey;
 
-// How many parameters can wait to be written: as many as there are vertices that can, of a polygon of two points.
+// How many parameters can wait to be written: as many as there are vertices that can, of a polygon of two points. They wait in an array, since there is no heap.
 const WAITING: usize = 195;
 
-// Draws the polygon of so many points onto a buffer and walks its pieces, on a stack there. The vertices are put on their buffers as far as these are long.
+// Draws the polygon onto a buffer and walks its pieces, on a stack there. The vertices are the first ones on their buffers.
 fn draw_and_walk<S: Source>(
     source: &S,
-    size: usize,
     tolerance: u16,
     buffer: &mut [S::K],
-    points: &mut [S::K],
-    parameters: &mut [u16],
-) -> Result<usize, Fault>
-    requires { (2 ≤ size) × (size ≤ 17) × Stackable (S.means source.now) size (length buffer.old) }
+    vertices: &mut Vertices<S::K>,
+) -> Result<(), Fault>
+    requires { Stackable (S.means source.now) (length buffer.old) × (vertices.old.count ≡ 0) }
     ensures answer { result ≡ walk_of S.K.Kind.width (λ _. tolerance) (S.means source.now) }
     ensures past { PastNeeded (S.means source.now) buffer.old buffer.new }
-    ensures points { PutsSome S.K.Kind.coord (vertices_of S.K.Kind.width (λ _. tolerance) (S.means source.now)) result points.old points.new }
-    ensures parameters { PutsSome (λ t. t) (parameters_of S.K.Kind.width (λ _. tolerance) (S.means source.now)) result parameters.old parameters.new }
+    ensures vertices { OnOk result (Adds S.K.Kind.coord (vertices_of S.K.Kind.width (λ _. tolerance) (S.means source.now)) (parameters_of S.K.Kind.width (λ _. tolerance) (S.means source.now)) vertices.old vertices.new) }
+    ensures same_points { vertices.new.points.ghost_name ≡ vertices.old.points.ghost_name }
+    ensures same_parameters { vertices.new.parameters.ghost_name ≡ vertices.old.parameters.ghost_name }
 {
-    source.draw(buffer)?;
-    put(points, 0, buffer[0]);
-    put(parameters, 0, 0);
+    let size = source.draw(buffer)?.degree + 1;
+    vertices.push(buffer[0], 0);
     let mut stack = Stack {
         buffer,
         size,
         used: size,
     };
-    walk(&mut stack, tolerance, 12, 0, points, parameters, 1)
-}
-
-// The same on the places of the working buffer that are needed, or on more of them.
-fn walk_source<S: Source>(
-    source: &S,
-    size: usize,
-    tolerance: u16,
-    working: &mut [S::K],
-    points: &mut [S::K],
-    parameters: &mut [u16],
-) -> Result<usize, Fault>
-    requires { (2 ≤ size) × (size ≤ 17) × Drawable (S.means source.now) size (length working.old) }
-    ensures answer { result ≡ walk_of S.K.Kind.width (λ _. tolerance) (S.means source.now) }
-    ensures working { Freed (S.means source.now) working.old working.new }
-    ensures points { PutsSome S.K.Kind.coord (vertices_of S.K.Kind.width (λ _. tolerance) (S.means source.now)) result points.old points.new }
-    ensures parameters { PutsSome (λ t. t) (parameters_of S.K.Kind.width (λ _. tolerance) (S.means source.now)) result parameters.old parameters.new }
-{
-    draw_and_walk(source, size, tolerance, working, points, parameters)
+    walk(&mut stack, tolerance, 12, 0, vertices)
 }
 
 // Flattens a source that was surveyed, on the places that are needed.
@@ -64,27 +46,34 @@ fn flatten_within<S: Source>(
     survey: Survey,
     tolerance: u16,
     places: &mut [S::K],
-    points: &mut [S::K],
-    parameters: &mut [u16],
+    vertices: &mut Vertices<S::K>,
 ) -> Result<usize, Fault>
-    requires { (Ok survey ≡ survey_of (S.means source.now)) × (max survey.reach 221 ≤ length places.old) }
-    ensures answer { result ≡ decided S.K.Kind.width (λ _. tolerance) (S.means source.now) (length points.old) (length parameters.old) }
-    ensures points { PutsFirst S.K.Kind.coord (vertices_of S.K.Kind.width (λ _. tolerance) (S.means source.now)) result points.old points.new }
-    ensures parameters { PutsFirst (λ t. t) (parameters_of S.K.Kind.width (λ _. tolerance) (S.means source.now)) result parameters.old parameters.new }
+    requires { (Ok survey ≡ survey_of (S.means source.now)) × (max survey.reach 221 ≤ length places.old) × (vertices.old.count ≡ 0) }
+    ensures answer { result ≡ decided S.K.Kind.width (λ _. tolerance) (S.means source.now) (length vertices.old.points.now) (length vertices.old.parameters.now) }
+    ensures points { PutsFirst S.K.Kind.coord (vertices_of S.K.Kind.width (λ _. tolerance) (S.means source.now)) result vertices.old.points.now vertices.new.points.now }
+    ensures parameters { PutsFirst (λ t. t) (parameters_of S.K.Kind.width (λ _. tolerance) (S.means source.now)) result vertices.old.parameters.now vertices.new.parameters.now }
+    ensures same_points { vertices.new.points.ghost_name ≡ vertices.old.points.ghost_name }
+    ensures same_parameters { vertices.new.parameters.ghost_name ≡ vertices.old.parameters.ghost_name }
 {
-    let size = survey.degree + 1;
-    let (stack, waiting) = places.split_at_mut(survey.reach.max(13 * size));
+    let enough = survey.reach.max(13 * (survey.degree + 1));
+    let (stack, free) = places.split_at_mut(enough);
     let mut marks = [0u16; WAITING];
-    let count = draw_and_walk(source, size, tolerance, stack, waiting, &mut marks)?;
-    if points.len() < count || parameters.len() < count {
+    let mut waiting = Vertices {
+        points: free,
+        parameters: &mut marks,
+        count: 0,
+    };
+    draw_and_walk(source, tolerance, stack, &mut waiting)?;
+    let count = waiting.count;
+    if !vertices.has_places(count) {
         return Err(Fault::new(Refusal::Short, count));
     }
-    if count <= waiting.len().min(WAITING) {
-        put_all(points, waiting, count);
-        put_all(parameters, &marks, count);
+    if waiting.has_places(count) {
+        vertices.copy_from(&waiting);
         return Ok(count);
     }
-    walk_source(source, size, tolerance, places, points, parameters)
+    draw_and_walk(source, tolerance, places, vertices)?;
+    Ok(count)
 }
 
 // Flattens a source: its polygon is halved until every piece is flat to the tolerance. The vertices, the first piece's start and every piece's end, are written with their
@@ -104,15 +93,17 @@ pub fn flatten<S: Source>(
 {
     let survey = source.survey()?;
     let needed = survey.reach.max(221);
-    if working.len() < needed {
-        return Err(Fault::new(Refusal::Short, needed));
-    }
+    test_places(needed, working.len())?;
+    let mut vertices = Vertices {
+        points,
+        parameters,
+        count: 0,
+    };
     flatten_within(
         source,
         survey,
         tolerance,
-        &mut working[0..needed],
-        points,
-        parameters,
+        &mut working[..needed],
+        &mut vertices,
     )
 }

@@ -1,20 +1,17 @@
 -- Survey and draw of a cut.
-use Rattle.std.proofs.Common.{◌≡◌, ℕ, ◌+◌, ◌-◌, ◌*◌, ◌<◌, ◌≤◌, false, not, eqb, ltb, List, map, length, take, drop, Ok, Err, Result, sym, refl, ap, ◌∙◌, arith}
-use Rattle.std.proofs.lemmas.Bool.{or_parts, ltb-false, not-false, eqb-true}
+use Rattle.std.proofs.Common.{◌≡◌, ℕ, ◌+◌, false, length, Ok, Err, Result, sym, refl, ap, ◌∙◌, arith}
+use Rattle.std.proofs.lemmas.Grind.{common_steps}
 use Rattle.std.proofs.lemmas.List.FromFn.{length-map-range_with_len}
 use Rattle.points.specs.declared.fault.Fault.{Fault}
-use Rattle.points.specs.declared.fault.Refusal.TheVariants.{OffScale, Degree, Worn, Grid}
 use Rattle.points.specs.declared.parameter.Parameter.{Parameter}
-use Rattle.points.specs.Refusals.{refuse}
 use Rattle.points.specs.Parameters.{off_scale}
-use Rattle.points.specs.Points.{Point, origin}
+use Rattle.points.specs.Points.{origin}
 use Rattle.workings.specs.declared.survey.Survey.{Survey}
-use Rattle.workings.proofs.Tests.{err-ok, passed}
-use Rattle.sources.specs.Meaning.{holds, Held, told, survey_of, draw_of, Laid}
+use Rattle.workings.proofs.Tests.{err-ok}
+use Rattle.sources.specs.Meaning.{holds, Held, told, survey_of}
 use Rattle.sources.specs.Piles.{settled}
 use Rattle.sources.specs.Points.{point_at}
-use Rattle.sources.proofs.Meanings.{drawn-ok, laid_by}
-use Rattle.patches.specs.Nets.{Net, column, cut_points, no_degree, cut_survey, cut_of, Gridded}
+use Rattle.patches.specs.Nets.{Net, column, cut_points, cut_survey, cut_of, Gridded}
 
 -- the tests that an accepted cut has passed, and what is told of it
 pub record Passed (s : Parameter) (m n e points : ℕ) (t : Survey) : Type 0 where
@@ -23,26 +20,17 @@ pub record Passed (s : Parameter) (m n e points : ℕ) (t : Survey) : Type 0 whe
   pub is : t ≡ record { degree = n; allowance = e + m; reach = n + 1 + m }
 
 pub survey-ok : (s : Parameter) (m n e points : ℕ) (t : Survey) → cut_survey s m n e points ≡ Ok t → Passed s m n e points t
-survey-ok s m n e points t q =
-    let a = passed (off_scale s) (refuse OffScale 0) _ t q in
-    let b = passed (no_degree m) (refuse Degree m) _ t a.1 in
-    let d = passed (no_degree n) (refuse Degree n) _ t b.1 in
-    let f = passed (not (eqb points ((m + 1) * (n + 1)))) (refuse Grid ((m + 1) * (n + 1))) _ t d.1 in
-    let w = passed (ltb 65535 (e + m)) (refuse Worn m) _ t f.1 in
-    let o = or_parts (ltb m 1) (ltb 16 m) b.0 in
-    let p = or_parts (ltb n 1) (ltb 16 n) d.0 in
-    let z = w.1 in
-    record {
-      scale = a.0;
-      gridded = record {
-        m_low = ltb-false m 1 o.0;
-        m_most = ltb-false 16 m o.1;
-        n_low = ltb-false n 1 p.0;
-        n_most = ltb-false 16 n p.1;
-        grid = eqb-true points ((m + 1) * (n + 1)) (not-false (eqb points ((m + 1) * (n + 1))) f.0);
-      };
-      is = (cc);
-    }
+survey-ok s m n e points t q = record {
+  scale = grind (arith, common_steps);
+  gridded = record {
+    m_low = grind (arith, common_steps);
+    m_most = grind (arith, common_steps);
+    n_low = grind (arith, common_steps);
+    n_most = grind (arith, common_steps);
+    grid = grind (arith, common_steps);
+  };
+  is = grind (arith, common_steps);
+}
 
 module _ (s : Parameter) (P : Net) where
   -- what a cut holds
@@ -53,7 +41,7 @@ module _ (s : Parameter) (P : Net) where
   length_cut = length-map-range_with_len (λ j. point_at s (column origin P.m P.n P.points j)) 0 (P.n + 1)
 
   told_is : told held ≡ record { degree = P.n; allowance = P.allowance + P.m; reach = P.n + 1 + P.m }
-  told_is = ap (λ d. record { degree = d; allowance = P.allowance + P.m; reach = P.n + 1 + P.m }) (let z : length held.points - 1 ≡ P.n = omega (arith, length_cut) in z)
+  told_is = let l = length_cut in grind (arith, common_steps)
 
   abbrev pub Accepted : Survey → Type 0
   Accepted t = Passed s P.m P.n P.allowance (length P.points) t
@@ -81,13 +69,3 @@ module _ (s : Parameter) (P : Net) where
           let o : Ok t ≡ Ok (told held) = e ∙ ap survey_of k in
           let i : t ≡ told held = cc in
           (record { scale = a.scale; gridded = a.gridded; is = i ∙ told_is }, k, i)
-
-  -- what draw answers and leaves
-  pub drawn : {X : Type 0} (c : X → Point) (t : Survey) (before after : List X) → Ok t ≡ survey_of (cut_of s P) → t.reach ≤ length before → map c (take (P.n + 1) after) ≡ cut_points s P.m P.n P.points → drop (P.n + 1 + P.m) after ≡ drop (P.n + 1 + P.m) before
-      → (Ok t ≡ draw_of (cut_of s P) (length before)) × Laid c (cut_of s P) before after
-  drawn c t before after e l first rest =
-      let h = surveyed-held t e in
-      let r : t.reach ≡ P.n + 1 + P.m = ap (λ v. v.reach) h.2 in (
-        drawn-ok held (length before) t (cut_of s P) h.1 h.2 (omega arith),
-        laid_by c (cut_of s P) (holds held) before after h.1 ((λ (v : length before < P.n + 1 + P.m). absurd (omega arith)), (λ _. (ap (λ k. map c (take k after)) length_cut ∙ first, rest))),
-      )

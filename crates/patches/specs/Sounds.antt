@@ -1,7 +1,7 @@
 -- What a cut means fits.
-use Rattle.std.specs.Prelude.{◌≡◌, ℕ, ◌+◌, ◌*◌, Bool, true, false, cond, not, List, length, Err, Result, ◌==◌, ◌≢◌, nat_lt, refl}
+use Rattle.std.specs.Prelude.{◌≡◌, ◌+◌, ◌*◌, Bool, true, false, cond, not, List, length, Err, Result, ◌==◌, ◌≢◌, nat_lt, refl}
 use Rattle.std.proofs.Common.{arith}
-use Rattle.std.proofs.lemmas.Bool.{or_parts, ltb-false}
+use Rattle.std.proofs.lemmas.Grind.{common_steps}
 use Rattle.std.proofs.lemmas.List.FromFn.{length-map-range_with_len}
 use Rattle.points.specs.declared.fault.Fault.{Fault}
 use Rattle.points.specs.declared.fault.Refusal.TheVariants.{OffScale, Short, Degree, Worn, Grid}
@@ -21,25 +21,22 @@ past true f r qs never k = never
 past false f r qs never k = k refl
 
 scale-no : OffScale ≡ Short → ⊥
-scale-no e = let z : ◌≡◌ {A = ℕ} 0 1 = cc in omega arith
+scale-no e = cc
 
 degree-no : Degree ≡ Short → ⊥
-degree-no e = let z : ◌≡◌ {A = ℕ} 0 1 = cc in omega arith
+degree-no e = cc
 
 grid-no : Grid ≡ Short → ⊥
-grid-no e = let z : ◌≡◌ {A = ℕ} 0 1 = cc in omega arith
+grid-no e = cc
 
 worn-no : Worn ≡ Short → ⊥
-worn-no e = let z : ◌≡◌ {A = ℕ} 0 1 = cc in omega arith
+worn-no e = cc
 
 -- a cut of degree n fits
 fit : (s : Parameter) (P : Net) → no_degree P.n ≡ false → nat_lt 65535 (P.allowance + P.m) ≡ false → Fit (record { points = cut_points s P.m P.n P.points; allowance = P.allowance + P.m; reach = P.n + 1 + P.m })
 fit s P d w =
     let l = length-map-range_with_len (λ j. point_at s (column origin P.m P.n P.points j)) 0 (P.n + 1) in
-    let o = or_parts (nat_lt P.n 1) (nat_lt 16 P.n) d in
-    let low = ltb-false P.n 1 o.0 in
-    let most = ltb-false 16 P.n o.1 in
-    record { some = omega arith; most = omega arith; small = ltb-false 65535 (P.allowance + P.m) w; roomy = omega arith }
+    record { some = grind (arith, common_steps); most = grind (arith, common_steps); small = grind (arith, common_steps); roomy = omega arith }
 
 pub cut_sound : (s : Parameter) (P : Net) → Sound (cut_of s P)
 cut_sound s P =

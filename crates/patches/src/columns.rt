@@ -8,39 +8,50 @@ use points::kind::Kind;
 use points::parameter::Parameter;
 use polygons::subdivision::right;
 
-// Copies column j, the points (0, j) to (m, j).
-fn copy_column<K: Kind>(points: &[K], m: usize, n: usize, j: usize, room: &mut [K])
-    requires { Gridded m n (length points.now) × (j ≤ n) × (length room.old ≡ m + 1) }
-    ensures { map K.coord room.new ≡ column origin m n (map K.coord points.now) j }
-{
-    for i in 0..m + 1 {
-        room[i] = points[i * (n + 1) + j];
+// The points of a patch whose numbers were tested: its degrees pass, and every row and column has its points.
+#[derive(Drop)]
+pub(crate) struct Grid<'a, K> {
+    pub(crate) points: &'a [K],
+    pub(crate) m: usize,
+    pub(crate) n: usize,
+    ghost gridded: { Gridded m n (length points.now) },
+}
+
+impl<'a, K: Kind> Grid<'a, K> {
+    // Copies column j, the points (0, j) to (m, j).
+    fn copy_column(&self, j: usize, room: &mut [K])
+        requires column_in { j ≤ self.now.n }
+        requires room_fits { length room.old ≡ self.now.m + 1 }
+        ensures { map K.coord room.new ≡ column origin self.now.m self.now.n (map K.coord self.now.points.now) j }
+    {
+        // Of a mutable slice that an adapter such as `zip` went over, no contract says what it holds, so the room is written by place.
+        for (i, row) in self.points.chunks_exact(self.n + 1).enumerate() {
+            room[i] = row[j];
+        }
     }
-}
 
-// Makes the point at s of column j, which then stands first in the room of m + 1 places.
-fn column_point<K: Kind>(points: &[K], m: usize, n: usize, j: usize, s: Parameter, room: &mut [K])
-    requires { Gridded m n (length points.now) × (j ≤ n) × (length room.old ≡ m + 1) × (off_scale s ≡ false) }
-    ensures { slice_index_or (map K.coord room.new) 0 origin ≡ point_at s (column origin m n (map K.coord points.now) j) }
-{
-    copy_column(points, m, n, j, room);
-    // A column is a polygon, so its right part at s, which starts with the point at s, is never refused.
-    let _ = right(room, s);
-}
+    // Makes the point at s of column j, which then stands first in the room of m + 1 places.
+    fn column_point(&self, j: usize, s: Parameter, room: &mut [K])
+        requires column_in { j ≤ self.now.n }
+        requires room_fits { length room.old ≡ self.now.m + 1 }
+        requires on_scale { off_scale s ≡ false }
+        ensures { slice_index_or (map K.coord room.new) 0 origin ≡ point_at s (column origin self.now.m self.now.n (map K.coord self.now.points.now) j) }
+    {
+        self.copy_column(j, room);
+        // A column is a polygon, so its right part at s, which starts with the point at s, is never refused.
+        let _ = right(room, s);
+    }
 
-// Puts the points of the cut at s first on the buffer. Each column is worked in the room from its point's place on, so m places past the cut are enough.
-pub(crate) fn draw_columns<K: Kind>(
-    points: &[K],
-    m: usize,
-    n: usize,
-    s: Parameter,
-    buffer: &mut [K],
-)
-    requires { Gridded m n (length points.now) × (off_scale s ≡ false) × (n + 1 + m ≤ length buffer.old) }
-    ensures cut { map K.coord (take (n + 1) buffer.new) ≡ cut_points s m n (map K.coord points.now) }
-    ensures untouched { drop (n + 1 + m) buffer.new ≡ drop (n + 1 + m) buffer.old }
-{
-    for j in 0..n + 1 {
-        column_point(points, m, n, j, s, &mut buffer[j..j + m + 1]);
+    // Puts the points of the cut at s first on the buffer. Each column is worked in the room from its point's place on, so m places past the cut are enough.
+    pub(crate) fn draw(&self, s: Parameter, buffer: &mut [K])
+        requires on_scale { off_scale s ≡ false }
+        requires roomy { self.now.n + 1 + self.now.m ≤ length buffer.old }
+        ensures cut { map K.coord (take (self.now.n + 1) buffer.new) ≡ cut_points s self.now.m self.now.n (map K.coord self.now.points.now) }
+        ensures untouched { drop (self.now.n + 1 + self.now.m) buffer.new ≡ drop (self.now.n + 1 + self.now.m) buffer.old }
+    {
+        // An iterator has no overlapping windows over a mutable slice, so the columns are counted.
+        for j in 0..self.n + 1 {
+            self.column_point(j, s, &mut buffer[j..j + self.m + 1]);
+        }
     }
 }

@@ -1,60 +1,19 @@
-ghost use Rattle.std.specs.Prelude.{◌≡◌, ◌+◌, ◌*◌, if◌then◌else◌, Ok, Err};
-ghost use Rattle.points.specs.Refusals.{refuse};
-ghost use Rattle.points.specs.declared.fault.Refusal.TheVariants.{Degree};
-ghost use Rattle.patches.specs.Nets.{net_of, no_degree, cut_survey, cut_of};
+ghost use Rattle.std.specs.Prelude.{◌≡◌};
+ghost use Rattle.patches.specs.Nets.{net_of, cut_of};
 ghost use Rattle.patches.specs.Sounds.{cut_sound};
 ghost use Rattle.patches.specs.Surfaces.{CutStands};
 
-use crate::columns::draw_columns;
+use crate::columns::Grid;
 use crate::patch::Patch;
 use points::fault::{Fault, Refusal};
 use points::kind::Kind;
 use points::parameter::Parameter;
+use polygons::size::test_range;
 use sources::source::Source;
-use workings::survey::Survey;
-
-// A degree is 1 to 16; else refusal 3, for m before n.
-fn test_degrees(m: usize, n: usize) -> Result<(), Fault>
-    ensures { result ≡ (if no_degree m then Err (refuse Degree m) else (if no_degree n then Err (refuse Degree n) else Ok tt)) }
-{
-    if m < 1 || m > 16 {
-        return Err(Fault::new(Refusal::Degree, m));
-    }
-    if n < 1 || n > 16 {
-        return Err(Fault::new(Refusal::Degree, n));
-    }
-    Ok(())
-}
-
-// What is told of the cut at s of a patch of so many points: it tests 1 for s, 3 for m, 3 for n, 10, then 4.
-fn survey_cut(
-    s: Parameter,
-    m: usize,
-    n: usize,
-    allowance: u16,
-    points: usize,
-) -> Result<Survey, Fault>
-    ensures { result ≡ cut_survey s m n allowance points }
-{
-    s.weight()?;
-    test_degrees(m, n)?;
-    let grid = (m + 1) * (n + 1);
-    if points != grid {
-        return Err(Fault::new(Refusal::Grid, grid));
-    }
-    let total = allowance as usize + m;
-    if total > 65535 {
-        return Err(Fault::new(Refusal::Worn, m));
-    }
-    Ok(Survey {
-        degree: n,
-        allowance: total as u16,
-        reach: n + 1 + m,
-    })
-}
+use workings::survey::{Survey, add_charge};
 
 // The cut of a patch at a parameter, its isoparametric curve there: point j is the point at `at` of column j.
-#[derive(Drop)]
+#[derive_where(Clone, Copy)]
 pub struct Cut<'a, K> {
     pub patch: Patch<'a, K>,
     pub at: Parameter,
@@ -68,27 +27,32 @@ impl<'a, K: Kind> Source for Cut<'a, K> {
     ghost sound = { λ s. cut_sound s.at (net_of K.Kind.coord s.patch) };
 
     fn survey(&self) -> Result<Survey, Fault> {
-        survey_cut(
-            self.at,
-            self.patch.m,
-            self.patch.n,
-            self.patch.allowance,
-            self.patch.points.len(),
-        )
+        // It tests 1 for the parameter, 3 for m, 3 for n, 10, then 4.
+        let Patch {
+            points,
+            m,
+            n,
+            allowance,
+        } = self.patch;
+        self.at.weight()?;
+        test_range(m, 1, 16)?;
+        test_range(n, 1, 16)?;
+        let grid = (m + 1) * (n + 1);
+        if points.len() != grid {
+            return Err(Fault::new(Refusal::Grid, grid));
+        }
+        let charged = add_charge(allowance, m)?;
+        Ok(Survey {
+            degree: n,
+            allowance: charged,
+            reach: n + 1 + m,
+        })
     }
 
     fn draw(&self, buffer: &mut [K]) -> Result<Survey, Fault> {
-        let s = self.survey()?;
-        if buffer.len() < s.reach {
-            return Err(Fault::new(Refusal::Short, s.reach));
-        }
-        draw_columns(
-            self.patch.points,
-            self.patch.m,
-            self.patch.n,
-            self.at,
-            buffer,
-        );
+        let s = self.survey()?.fitting(buffer.len())?;
+        let Patch { points, m, n, .. } = self.patch;
+        Grid { points, m, n }.draw(self.at, buffer);
         Ok(s)
     }
 }
@@ -100,12 +64,7 @@ impl<'a, K: Kind> Patch<'a, K> {
         ensures stands { CutStands K.width (net_of K.coord self.now) s }
     {
         Cut {
-            patch: Patch {
-                points: self.points,
-                m: self.m,
-                n: self.n,
-                allowance: self.allowance,
-            },
+            patch: *self,
             at: s,
         }
     }

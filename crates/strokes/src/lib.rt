@@ -4,7 +4,7 @@
 ghost use Rattle.std.specs.Prelude.{◌≡◌, ◌<◌, length};
 ghost use Rattle.strokes.specs.Strokes.{InMillimetres, StrokeTo, strokes_of, Stroked};
 
-use points::fault::{Fault, Refusal};
+use points::fault::{Fault, test_places};
 use points::planar::Planar;
 
 // What the stylus is told: where to start, or to draw a line to. x and y are in mm.
@@ -40,11 +40,10 @@ pub fn strokes(vertices: &[Planar], buffer: &mut [Stroke]) -> Result<usize, Faul
     ensures strokes { Stroked vertices.now result buffer.old buffer.new }
 {
     let count = vertices.len();
-    if buffer.len() < count {
-        return Err(Fault::new(Refusal::Short, count));
-    }
-    for i in 0..count {
-        buffer[i] = stroke_to(i, vertices[i]);
+    test_places(count, buffer.len())?;
+    // Of a mutable slice that an adapter such as `zip` went over, no contract says what it holds, so the buffer is written by place.
+    for (i, vertex) in vertices.iter().enumerate() {
+        buffer[i] = stroke_to(i, *vertex);
     }
     Ok(count)
 }

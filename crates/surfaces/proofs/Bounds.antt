@@ -1,5 +1,5 @@
 -- What is true of every drawing that a cut stands for is true of every surface that follows the patch.
-use Rattle.std.proofs.Common.{◌≡◌, ℕ, ◌+◌, ◌-◌, ◌*◌, ◌<◌, List, [], length, Ok, Err, Result, sym, refl, ap, ◌∙◌, subst, subst₂, arith}
+use Rattle.std.proofs.Common.{◌≡◌, ℕ, ◌+◌, ◌-◌, ◌*◌, ◌<◌, List, [], length, Ok, Err, Result, sym, refl, ap, ap₂, ◌∙◌, subst, subst₂, arith}
 use Rattle.exact.specs.Fractions.{Fraction, WithinHalf, HalfApart}
 use Rattle.exact.specs.Workings.{carried}
 use Rattle.exact.specs.Spans.{mark, ◌≼◌, evenly}
@@ -19,6 +19,10 @@ use Rattle.patches.proofs.Cuts.{held, length_cut, surveyed-held}
 use Rattle.patches.proofs.Plain.{carried_none}
 use Rattle.patches.proofs.Stands.{cut_stands}
 use Rattle.surfaces.specs.Bounds.{NearSurface, OnSurface, ChordNearSurface, SurfaceChord, ChordsOnSurface, SurfaceAccuracy}
+
+-- cuts of one net at one parameter, from what the cut call ensures
+pub cut-is : (P Q : Net) (s at : Parameter) → (Q ≡ P) × (at ≡ s) → cut_of at Q ≡ cut_of s P
+cut-is P Q s at e = ap₂ cut_of e.1 e.0
 
 module _ (width : ℕ) (P : Net) (s : Parameter) where
   abbrev curve : PatchDrawing → Drawing

@@ -1,19 +1,15 @@
 -- Lazy answers on surfaces, refuted on small patches.
-use Rattle.std.proofs.Common.{◌≡◌, ℕ, zero, suc, ◌+◌, ◌-◌, ◌*◌, ◌^◌, ◌≤◌, [], ◌∷◌, ℤ, pos, Ok, refl, subst, arith, pow_mono}
+use Rattle.std.proofs.Common.{ℕ, ◌+◌, ◌-◌, ◌*◌, [], ◌∷◌, pos, Ok, refl, subst, arith}
 use borrow.Author.Differences.{ints}
-use Rattle.exact.specs.Fractions.{whole, WithinHalf, HalfApart}
+use Rattle.exact.specs.Fractions.{HalfApart}
 use Rattle.exact.specs.Curve.{exact}
 use Rattle.exact.specs.Spans.{mark, evenly}
-use Rattle.exact.proofs.Ring.{gap_same}
-use Rattle.exact.proofs.Curve.{one-*}
 use Rattle.points.specs.Points.{mixed}
+use Rattle.flattening.proofs.Bites.{close, depth-none}
 use Rattle.patches.specs.Nets.{Net}
 use Rattle.patches.specs.Surfaces.{surface_at, Follows, value_of}
 use Rattle.surfaces.specs.Bounds.{OnSurface, ChordsOnSurface}
 use Rattle.surfaces.specs.Refutations.{itself, height, start, half, one, stair, corner, ridge, SurfaceRefutations}
-
-close : (e : ℕ) (z : ℤ) → WithinHalf e z (whole z)
-close e z = record { half = rw (one-* z) (omega (arith, gap_same z)) }
 
 follows : (width : ℕ) (P : Net) → Follows width P (itself P)
 follows width P i j a _ _ _ = close P.allowance _
@@ -29,10 +25,6 @@ not_exchanged h = let b = (h (itself stair) (follows 1 stair) 0 (omega arith)).h
 not_without_m : OnSurface 1 corner half half (Ok (height 1, 1)) → ⊥
 unfolding exact
 not_without_m h = let b = (h (itself corner) (follows 1 corner) 0 (omega arith)).half in absurd (omega arith)
-
-depth-none : (d : ℕ) → 4096 ≡ 0 + 2 ^ (12 - d) → d ≡ 0
-depth-none zero e = refl
-depth-none (suc d) e = let h : 2 ^ (12 - suc d) ≤ 2 ^ 11 = pow_mono {j = 11} (omega arith) in absurd (omega (arith, h, e))
 
 not_unhalved : ChordsOnSurface 1 (λ _. 1) ridge half (Ok 2) (height 0 ∷ (height 0 ∷ [])) (0 ∷ (4096 ∷ [])) → ⊥
 unfolding exact evenly

@@ -1,4 +1,5 @@
 // Points and chords of the isoparametric curves of patches, held against every exact surface that the patch may stand for.
+// The buffers are lent one by one, as the point call and flattening take them.
 #![tactic(auto)]
 
 pub mod isoparametric;
