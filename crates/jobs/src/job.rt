@@ -19,8 +19,7 @@ pub fn run<S: Source>(source: &S, workings: &[Working], buffer: &mut [S::K]) -> 
     ensures carries { CarriesDone S.K.Kind.coord S.K.Kind.width (S.means source.now) workings.now buffer.new result }
 {
     let mut strand = Strand::load(source, buffer)?;
-    let mut done = 0;
-    for w in workings {
+    for (done, w) in workings.iter().enumerate() {
         if let Err(f) = strand.work(*w, buffer) {
             return Ok(Job {
                 strand,
@@ -28,11 +27,10 @@ pub fn run<S: Source>(source: &S, workings: &[Working], buffer: &mut [S::K]) -> 
                 fault: Some(f),
             });
         }
-        done += 1;
     }
     Ok(Job {
         strand,
-        done,
+        done: workings.len(),
         fault: None,
     })
 }

@@ -5,7 +5,7 @@ ghost use Rattle.pathfiles.specs.Opened.{OpensBy, Holds, NoFile};
 
 use crate::opened::Opened;
 use pathformat::kind::FileKind;
-use pathreading::fields::{fault_at, one_byte, two_bytes};
+use pathreading::fields::Unread;
 use pathreading::filed::Filed;
 use pathreading::section::Section;
 use points::fault::{Fault, Refusal};
@@ -18,53 +18,52 @@ const LONGEST_FILE: usize = 65_535;
 const LONGEST_NAME: u16 = 64;
 
 // The allowance, after a head of the kind wanted.
-fn read_head(wanted: FileKind, total: usize, file: &[u8]) -> Result<(u16, &[u8]), Fault>
-    ensures { Reads (head_at wanted total file.now) result }
+fn read_head(wanted: FileKind, file: Unread) -> Result<(u16, Unread), Fault>
+    ensures { Reads (head_at wanted) file.entry result }
 {
-    let (count, rest) = two_bytes(total, file)?;
+    let (count, rest) = file.two_bytes()?;
     if count != 3 {
-        return Err(fault_at(Refusal::Foreign, total, file));
+        return Err(file.fault(Refusal::Foreign));
     }
-    let (kind, more) = one_byte(total, rest)?;
-    if kind != wanted.code() {
-        return Err(fault_at(Refusal::Foreign, total, rest));
+    let (kind, more) = rest.one_byte()?;
+    if kind != u8::from(wanted) {
+        return Err(rest.fault(Refusal::Foreign));
     }
-    two_bytes(total, more)
+    more.two_bytes()
 }
 
 // The name, as a part of the file.
-fn read_name(total: usize, file: &[u8]) -> Result<(&[u8], &[u8]), Fault>
-    ensures { ReadsAs (λ x. x.now) (name_at total file.now) result }
+fn read_name(file: Unread) -> Result<(&[u8], Unread), Fault>
+    ensures { ReadsAs (λ x. x.now) name_at file.entry result }
 {
-    let (count, rest) = two_bytes(total, file)?;
+    let (count, unread) = file.two_bytes()?;
     if count > LONGEST_NAME {
-        return Err(fault_at(Refusal::Overlong, total, file));
+        return Err(file.fault(Refusal::Overlong));
     }
-    let n = usize::from(count);
-    if rest.len() < n {
-        return Err(fault_at(Refusal::Cut, total, rest));
-    }
-    Ok(rest.split_at(n))
+    let Some((name, rest)) = unread.rest.split_at_checked(usize::from(count)) else {
+        return Err(unread.fault(Refusal::Cut));
+    };
+    Ok((name, Unread { rest, ..unread }))
 }
 
 // The four sections, and nothing after them.
-fn read_sections<'a, K: Filed + 'a>(total: usize, file: &'a [u8]) -> Result<Opened<'a, K>, Fault>
-    ensures { OpensBy (sections K.kind total file.now) K.kind result }
+fn read_sections<'a, K: Filed + 'a>(file: Unread<'a>) -> Result<Opened<'a, K>, Fault>
+    ensures { OpensBy (sections K.kind file.entry.total file.entry.rest.now) K.kind result }
 {
-    let (allowance, rest) = read_head(K::filed_as(), total, file)?;
-    let (name, rest) = read_name(total, rest)?;
-    let (points, rest) = Section::read::<K>(2, 17, Refusal::Degree, total, rest)?;
-    let (workings, rest) = Section::read::<Working>(0, 256, Refusal::Overlong, total, rest)?;
-    match rest {
-        [] => Ok(Opened {
-            allowance,
-            name,
-            points,
-            workings,
-            kind: PhantomData,
-        }),
-        _ => Err(fault_at(Refusal::Tail, total, rest)),
+    let (allowance, rest) = read_head(K::filed_as(), file)?;
+    let (name, rest) = read_name(rest)?;
+    let (points, rest) = Section::read::<K>(2, 17, Refusal::Degree, rest)?;
+    let (workings, tail) = Section::read::<Working>(0, 256, Refusal::Overlong, rest)?;
+    if !tail.rest.is_empty() {
+        return Err(tail.fault(Refusal::Tail));
     }
+    Ok(Opened {
+        allowance,
+        name,
+        points,
+        workings,
+        kind: PhantomData,
+    })
 }
 
 // Opens a file as the kind K. A file over 65,535 bytes is refused with 12; then the first field that fails tells the fault, and its place.
@@ -76,5 +75,5 @@ pub fn open<'a, K: Filed + 'a>(file: &'a [u8]) -> Result<Opened<'a, K>, Fault>
     if total > LONGEST_FILE {
         return Err(Fault::new(Refusal::Overlong, 0));
     }
-    read_sections(total, file)
+    read_sections(Unread { total, rest: file })
 }

@@ -4,9 +4,8 @@ ghost use Rattle.pathfiles.specs.Sounds.{filed_sound};
 
 use crate::opened::Opened;
 use pathreading::filed::Filed;
-use points::fault::{Fault, Refusal};
+use points::fault::Fault;
 use points::kind::Kind;
-use polygons::size::test_size;
 use sources::source::Source;
 use workings::survey::Survey;
 
@@ -19,21 +18,11 @@ impl<'a, K: Filed> Source for Opened<'a, K> {
     ghost sound = { λ o. filed_sound K.Filed.kind o };
 
     fn survey(&self) -> Result<Survey, Fault> {
-        self.check()?;
-        let n = usize::from(self.point_count());
-        test_size(n)?;
-        Ok(Survey {
-            degree: n - 1,
-            allowance: self.allowance(),
-            reach: n,
-        })
+        Survey::of_points(usize::from(self.point_count()), self.allowance())
     }
 
     fn draw(&self, buffer: &mut [K]) -> Result<Survey, Fault> {
         let s = self.survey()?;
-        if buffer.len() < s.reach {
-            return Err(Fault::new(Refusal::Short, s.reach));
-        }
         self.points(buffer)?;
         Ok(s)
     }

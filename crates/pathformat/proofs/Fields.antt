@@ -16,7 +16,11 @@ pub record Undo {X : Type 0} (rd : ℕ → List ℕ → Read X) (wr : X → List
 -- what was taken in two steps
 pub taken-after : {X Y : Type 0} (q : Read X) (f : X → List ℕ → Read Y) (y : Y) (s : List ℕ) → after q f ≡ took y s → (x : X) × (r : List ℕ) × (q ≡ took x r) × (f x r ≡ took y s)
 taken-after (took x r) f y s e = (x, r, refl, e)
-taken-after (bad w) f y s e = absurd (let z : ◌≡◌ {A = ℕ} 0 1 = cc in omega arith)
+taken-after (bad w) f y s e = absurd (cc)
+
+-- what holds of a value and the bytes after it holds of those that were taken
+pub along : {X : Type 0} (P : X → List ℕ → Type 0) (x y : X) (s r : List ℕ) → took x s ≡ took y r → P x s → P y r
+along P x y s r e h = subst (λ z. P z r) (let q : x ≡ y = cc in q) (subst (P x) (let q : s ≡ r = cc in q) h)
 
 pub at_after : {X Y : Type 0} (q : Read X) (f : X → List ℕ → Read Y) (x : X) (r : List ℕ) → q ≡ took x r → after q f ≡ f x r
 at_after q f x r e = ap (λ p. after p f) e
@@ -34,7 +38,7 @@ pub one-undo : Undo one (λ x. x ∷ []) byte
 one-undo = record { reads = λ n x r h. refl; wrote = go }
   where
     go : (n : ℕ) (bs : List ℕ) (x : ℕ) (r : List ℕ) → Bytes bs → one n bs ≡ took x r → (bs ≡ x ∷ r) × ((x < 256) × Bytes r)
-    go n [] x r b e = absurd (let z : ◌≡◌ {A = ℕ} 0 1 = cc in omega arith)
+    go n [] x r b e = absurd (cc)
     go n (y ∷ bs) x r b e =
         let p : y ≡ x = cc in
         let q : bs ≡ r = cc in
@@ -44,8 +48,8 @@ pub two-undo : Undo two bytes2 short
 two-undo = record { reads = λ n x r h. ap (λ m. took m r) (omega arith); wrote = go }
   where
     go : (n : ℕ) (bs : List ℕ) (x : ℕ) (r : List ℕ) → Bytes bs → two n bs ≡ took x r → (bs ≡ bytes2 x ++ r) × (short x × Bytes r)
-    go n [] x r b e = absurd (let z : ◌≡◌ {A = ℕ} 0 1 = cc in omega arith)
-    go n (y ∷ []) x r b e = absurd (let z : ◌≡◌ {A = ℕ} 0 1 = cc in omega arith)
+    go n [] x r b e = absurd (cc)
+    go n (y ∷ []) x r b e = absurd (cc)
     go n (y ∷ z ∷ bs) x r b e =
         let p : y * 256 + z ≡ x = cc in
         let q : bs ≡ r = cc in
@@ -70,10 +74,10 @@ four-undo = record {
 }
   where
     go : (n : ℕ) (bs : List ℕ) (x : ℤ) (r : List ℕ) → Bytes bs → four n bs ≡ took x r → (bs ≡ bytes4 x ++ r) × (axis x × Bytes r)
-    go n [] x r b e = absurd (let z : ◌≡◌ {A = ℕ} 0 1 = cc in omega arith)
-    go n (y ∷ []) x r b e = absurd (let z : ◌≡◌ {A = ℕ} 0 1 = cc in omega arith)
-    go n (y ∷ z ∷ []) x r b e = absurd (let z : ◌≡◌ {A = ℕ} 0 1 = cc in omega arith)
-    go n (y ∷ z ∷ u ∷ []) x r b e = absurd (let z : ◌≡◌ {A = ℕ} 0 1 = cc in omega arith)
+    go n [] x r b e = absurd (cc)
+    go n (y ∷ []) x r b e = absurd (cc)
+    go n (y ∷ z ∷ []) x r b e = absurd (cc)
+    go n (y ∷ z ∷ u ∷ []) x r b e = absurd (cc)
     go n (y ∷ z ∷ u ∷ v ∷ bs) x r b e =
         let m = y * 16777216 + z * 65536 + u * 256 + v in
         let p : to_z w32 m ≡ x = cc in
@@ -101,15 +105,13 @@ module _ {X : Type 0} {rd : ℕ → List ℕ → Read X} {wr : X → List ℕ} {
               let sr : s ≡ r = cc in
               let d = u.wrote n bs x r b (p ∙ q) in
               (d.0, ((d.1.0, ap fine (sym yx) ∙ f), d.1.1))
-          go y s false f p q = absurd (let z : ◌≡◌ {A = ℕ} 0 1 = cc in omega arith)
+          go y s false f p q = absurd (cc)
 
   step : (k : ℕ) (bs s : List ℕ) (x : X) (xs ys : List X) (r q : List ℕ) → bs ≡ wr x ++ s → ok x → (s ≡ flat_map wr ys ++ q) × (((length ys ≡ k) × Each ok ys) × Bytes q) → took (x ∷ ys) q ≡ took xs r → (bs ≡ flat_map wr xs ++ r) × (((length xs ≡ suc k) × Each ok xs) × Bytes r)
   step k bs s x xs ys r q p o h e =
-      let same : x ∷ ys ≡ xs = cc in
-      let end : q ≡ r = cc in
       let P : List X → List ℕ → Type 0 = λ zs t. (bs ≡ flat_map wr zs ++ t) × (((length zs ≡ suc k) × Each ok zs) × Bytes t) in
       let here : P (x ∷ ys) q = (p ∙ ap (λ t. wr x ++ t) h.0 ∙ sym (append_assoc (wr x) (flat_map wr ys) q), ((ap suc h.1.0.0, (o, h.1.0.1)), h.1.1)) in
-      subst (λ zs. P zs r) same (subst (P (x ∷ ys)) end here)
+      along P (x ∷ ys) xs q r e here
 
   pub many-undo : (k : ℕ) → Undo (many rd k) (flat_map wr) (λ xs. (length xs ≡ k) × Each ok xs)
   many-undo k = record { reads = there k; wrote = back k }
@@ -123,7 +125,7 @@ module _ {X : Type 0} {rd : ℕ → List ℕ → Read X} {wr : X → List ℕ} {
 
       back : (k n : ℕ) (bs : List ℕ) (xs : List X) (r : List ℕ) → Bytes bs → many rd k n bs ≡ took xs r → (bs ≡ flat_map wr xs ++ r) × (((length xs ≡ k) × Each ok xs) × Bytes r)
       back zero n bs [] r b e = let p : bs ≡ r = cc in (p, ((refl, tt), subst Bytes p b))
-      back zero n bs (x ∷ xs) r b e = absurd (let z : ◌≡◌ {A = ℕ} 0 1 = cc in omega arith)
+      back zero n bs (x ∷ xs) r b e = absurd (cc)
       back (suc k) n bs xs r b e =
           let t = taken-after (rd n bs) _ xs r e in
           let v = taken-after (many rd k n t.1) _ xs r t.3 in

@@ -1,8 +1,10 @@
 -- Reading and writing a file undo each other.
-use Rattle.std.proofs.Common.{◌≡◌, ℕ, zero, suc, ◌*◌, ◌<◌, ◌≤◌, Bool, true, false, cond, eqb, ltb, leb, List, [], ◌∷◌, ◌++◌, length, take, drop, ℤ, sym, refl, ap, ◌∙◌, subst, append-nil, arith, take-append-drop}
+use Rattle.std.proofs.Common.{◌≡◌, ℕ, zero, suc, ◌*◌, ◌<◌, ◌≤◌, Bool, true, false, cond, eqb, ltb, leb, List, [], ◌∷◌, ◌++◌, length, take, drop, get_or, ℤ, sym, refl, ap, ◌∙◌, subst, append-nil, arith, take-append-drop}
 use Rattle.std.specs.List.{flat_map}
 use Rattle.std.proofs.lemmas.Bool.{cond-false, ltb-false, le-ltb, leb-true, le-leb, eqb-true, eq-eqb, and_parts}
 use Rattle.std.proofs.lemmas.List.{take_at, drop_at, length-append, length-take-le}
+use Rattle.std.proofs.lemmas.List.Concat.{length-flat_map}
+use Rattle.std.proofs.lemmas.List.Sums.{sum_by-le}
 use Rattle.pathformat.specs.declared.kind.FileKind.{FileKind}
 use Rattle.pathformat.specs.declared.kind.FileKind.TheVariants.{Height, Planar, Sample}
 use Rattle.workings.specs.declared.working.Working.{Working}
@@ -12,7 +14,7 @@ use Rattle.points.specs.Refusals.{refuse}
 use Rattle.pathformat.specs.Reading.{took, bad, fault, after, one, two, part, checked}
 use Rattle.pathformat.specs.Writing.{bytes2, bytes_each, Bytes, Each}
 use Rattle.pathformat.specs.File.{Field, axis, press, fields, code, File, head_at, name_at, few_points, few_workings, points_at, workings_at, ended, sections, decode, field_bytes, fields_bytes, point_bytes, working_bytes, head_bytes, name_bytes, encode, FieldsOk, WorkingOk, Fileable, IsFile}
-use Rattle.pathformat.proofs.Fields.{Undo, taken-after, at_after, byte, short, one-undo, two-undo, checked-undo, counted-undo}
+use Rattle.pathformat.proofs.Fields.{Undo, taken-after, along, at_after, byte, short, one-undo, two-undo, checked-undo, counted-undo}
 use Rattle.pathformat.proofs.Items.{point-undo, working-undo}
 
 -- the name
@@ -37,13 +39,11 @@ part-undo k = record { reads = there; wrote = back }
     back n bs xs r b e = go (ltb (length bs) k) refl e
       where
         go : (v : Bool) → ltb (length bs) k ≡ v → cond v (bad (fault Cut n bs)) (took (take k bs) (drop k bs)) ≡ took xs r → (bs ≡ xs ++ r) × (((length xs ≡ k) × Bytes xs) × Bytes r)
-        go true f q = absurd (let z : ◌≡◌ {A = ℕ} 0 1 = cc in omega arith)
+        go true f q = absurd (cc)
         go false f q =
-            let same : take k bs ≡ xs = cc in
-            let end : drop k bs ≡ r = cc in
             let P : List ℕ → List ℕ → Type 0 = λ ys s. (bs ≡ ys ++ s) × (((length ys ≡ k) × Bytes ys) × Bytes s) in
             let here : P (take k bs) (drop k bs) = (sym (take-append-drop k bs), ((length-take-le k bs (ltb-false _ _ f), bytes_take k bs b), bytes_drop k bs b)) in
-            subst (λ ys. P ys r) same (subst (P (take k bs)) end here)
+            along P (take k bs) xs (drop k bs) r q here
 
 abbrev NameOk : List ℕ → Type 0
 NameOk nm = (length nm ≤ 64) × Bytes nm
@@ -95,8 +95,7 @@ head-undo k = record { reads = there; wrote = back }
 
 -- a file is short
 joined-bound : {X : Type 0} (wr : X → List ℕ) (m : ℕ) → ((x : X) → length (wr x) ≤ m) → (xs : List X) → length (flat_map wr xs) ≤ m * length xs
-joined-bound wr m h [] = omega arith
-joined-bound wr m h (x ∷ xs) = omega (arith, length-append (wr x) (flat_map wr xs), h x, joined-bound wr m h xs)
+joined-bound wr m h xs = omega (arith, length-flat_map wr xs, sum_by-le (λ x. length (wr x)) m xs (λ i d lt. h (get_or xs i d)))
 
 field_bound : (f : Field) (z : ℤ) → length (field_bytes f z) ≤ 4
 field_bound axis z = omega arith
@@ -155,7 +154,7 @@ reads-back f h =
 -- reading, then writing
 ended_is : (g f : File) (n : ℕ) (bs r : List ℕ) → ended g n bs ≡ took f r → (bs ≡ []) × (g ≡ f)
 ended_is g f n [] r e = (refl, cc)
-ended_is g f n (b ∷ bs) r e = absurd (let z : ◌≡◌ {A = ℕ} 0 1 = cc in omega arith)
+ended_is g f n (b ∷ bs) r e = absurd (cc)
 
 sections-are : (k : FileKind) (n : ℕ) (bs : List ℕ) (f : File) (r : List ℕ) → Bytes bs → sections k n bs ≡ took f r → IsFile k bs f
 sections-are k n bs f r b e =
@@ -178,5 +177,5 @@ pub is-file : (k : FileKind) (bs : List ℕ) (f : File) (r : List ℕ) → Bytes
 is-file k bs f r b e = go (ltb 65535 (length bs)) e
   where
     go : (v : Bool) → cond v (bad (refuse Overlong 0)) (sections k (length bs) bs) ≡ took f r → IsFile k bs f
-    go true q = absurd (let z : ◌≡◌ {A = ℕ} 0 1 = cc in omega arith)
+    go true q = absurd (cc)
     go false q = sections-are k (length bs) bs f r b q

@@ -9,12 +9,12 @@ pub enum FileKind {
     Sample,
 }
 
-impl FileKind {
-    // The byte that names the kind in a file's head, 1 to 3.
-    pub fn code(self) -> u8
-        ensures { result ≡ code self }
-    {
-        match self {
+// The byte that names the kind in a file's head, 1 to 3.
+impl From<FileKind> for u8 {
+    ghost from_gives = { λ kind n. n ≡ code kind };
+
+    fn from(kind: FileKind) -> u8 {
+        match kind {
             FileKind::Height => 1,
             FileKind::Planar => 2,
             FileKind::Sample => 3,

@@ -6,8 +6,6 @@ ghost use Rattle.pathformat.specs.File.{RoundTrip};
 pub mod kind;
 
 // Reading and writing a file undo each other, from either side.
-pub fn round_trip() -> u8
+pub fn round_trip()
     ensures { RoundTrip }
-{
-    0
-}
+{}

@@ -4,39 +4,52 @@ ghost use Rattle.pathreading.specs.Outcomes.{Reads};
 
 use points::fault::{Fault, Refusal};
 
-// The fault of the field that starts where `rest` starts, in a file of `total` bytes.
-pub fn fault_at(refusal: Refusal, total: usize, rest: &[u8]) -> Fault
-    ensures { result ≡ fault refusal total rest.now }
-{
-    Fault::new(refusal, total.saturating_sub(rest.len()))
+// What is left to read of a file of `total` bytes.
+#[derive(Clone, Copy)]
+pub struct Unread<'a> {
+    pub total: usize,
+    pub rest: &'a [u8],
 }
 
-// A number of one byte.
-pub fn one_byte(total: usize, file: &[u8]) -> Result<(u8, &[u8]), Fault>
-    ensures { Reads (one total file.now) result }
-{
-    match file {
-        [b, rest @ ..] => Ok((*b, rest)),
-        _ => Err(fault_at(Refusal::Cut, total, file)),
+// Each size of number has its own call, since each names its bytes and the rest by a slice pattern, as all reading here does.
+impl<'a> Unread<'a> {
+    // The fault of the field that starts here.
+    pub fn fault(self, refusal: Refusal) -> Fault
+        ensures { result ≡ fault refusal self.entry.total self.entry.rest.now }
+    {
+        Fault::new(refusal, self.total.saturating_sub(self.rest.len()))
     }
-}
 
-// A number of two bytes.
-pub fn two_bytes(total: usize, file: &[u8]) -> Result<(u16, &[u8]), Fault>
-    ensures { Reads (two total file.now) result }
-{
-    match file {
-        [hi, lo, rest @ ..] => Ok((u16::from(*hi) * 256 + u16::from(*lo), rest)),
-        _ => Err(fault_at(Refusal::Cut, total, file)),
+    // A number of one byte.
+    pub fn one_byte(self) -> Result<(u8, Unread<'a>), Fault>
+        ensures { Reads one self.entry result }
+    {
+        match self.rest {
+            [b, rest @ ..] => Ok((*b, Unread { rest, ..self })),
+            _ => Err(self.fault(Refusal::Cut)),
+        }
     }
-}
 
-// A signed number of four bytes.
-pub fn four_bytes(total: usize, file: &[u8]) -> Result<(i32, &[u8]), Fault>
-    ensures { Reads (four total file.now) result }
-{
-    match file {
-        [a, b, c, d, rest @ ..] => Ok((i32::from_be_bytes([*a, *b, *c, *d]), rest)),
-        _ => Err(fault_at(Refusal::Cut, total, file)),
+    // A number of two bytes.
+    pub fn two_bytes(self) -> Result<(u16, Unread<'a>), Fault>
+        ensures { Reads two self.entry result }
+    {
+        match self.rest {
+            [hi, lo, rest @ ..] => Ok((u16::from_be_bytes([*hi, *lo]), Unread { rest, ..self })),
+            _ => Err(self.fault(Refusal::Cut)),
+        }
+    }
+
+    // A signed number of four bytes.
+    pub fn four_bytes(self) -> Result<(i32, Unread<'a>), Fault>
+        ensures { Reads four self.entry result }
+    {
+        match self.rest {
+            [a, b, c, d, rest @ ..] => {
+                let number = i32::from_be_bytes([*a, *b, *c, *d]);
+                Ok((number, Unread { rest, ..self }))
+            }
+            _ => Err(self.fault(Refusal::Cut)),
+        }
     }
 }

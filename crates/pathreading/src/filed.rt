@@ -4,7 +4,7 @@ ghost use Rattle.pathformat.specs.declared.kind.FileKind.TheVariants.{Height as 
 ghost use Rattle.pathformat.specs.File.{listed, point_at, press_at};
 ghost use Rattle.pathreading.specs.Outcomes.{Reads, ReadsAs};
 
-use crate::fields::{fault_at, four_bytes, two_bytes};
+use crate::fields::Unread;
 use crate::item::Item;
 use pathformat::kind::FileKind;
 use points::fault::{Fault, Refusal};
@@ -13,7 +13,7 @@ use points::kind::Kind;
 use points::planar::Planar;
 use points::sample::Sample;
 
-// A kind of point that path files hold.
+// A kind of point that path files hold. Each kind names its own fields.
 pub trait Filed: Kind {
     // the kind in a file's head
     ghost kind: { FileKind };
@@ -22,9 +22,9 @@ pub trait Filed: Kind {
     fn filed_as() -> FileKind
         ensures { result ≡ kind };
 
-    // The point that stands next, and the bytes after it.
-    fn read_point(total: usize, file: &[u8]) -> Result<(Self, &[u8]), Fault>
-        ensures { ReadsAs (λ p. listed Self.Kind.width (Self.Kind.coord p)) (point_at kind total file.now) result };
+    // The point that stands next, and what is left after it.
+    fn read_point(file: Unread) -> Result<(Self, Unread), Fault>
+        ensures { ReadsAs (λ p. listed Self.Kind.width (Self.Kind.coord p)) (point_at kind) file.entry result };
 }
 
 // A point of any such kind is an item, and stands for the list of its axis values.
@@ -35,8 +35,8 @@ impl<K: Filed> Item for K {
 
     ghost reads = { point_at K.Filed.kind };
 
-    fn read(total: usize, file: &[u8]) -> Result<(K, &[u8]), Fault> {
-        K::read_point(total, file)
+    fn read(file: Unread) -> Result<(K, Unread), Fault> {
+        K::read_point(file)
     }
 }
 
@@ -47,8 +47,8 @@ impl Filed for Height {
         FileKind::Height
     }
 
-    fn read_point(total: usize, file: &[u8]) -> Result<(Height, &[u8]), Fault> {
-        let (z, rest) = four_bytes(total, file)?;
+    fn read_point(file: Unread) -> Result<(Height, Unread), Fault> {
+        let (z, rest) = file.four_bytes()?;
         Ok((Height { z }, rest))
     }
 }
@@ -60,20 +60,20 @@ impl Filed for Planar {
         FileKind::Planar
     }
 
-    fn read_point(total: usize, file: &[u8]) -> Result<(Planar, &[u8]), Fault> {
-        let (x, rest) = four_bytes(total, file)?;
-        let (y, rest) = four_bytes(total, rest)?;
+    fn read_point(file: Unread) -> Result<(Planar, Unread), Fault> {
+        let (x, rest) = file.four_bytes()?;
+        let (y, rest) = rest.four_bytes()?;
         Ok((Planar { x, y }, rest))
     }
 }
 
 // A press of two bytes, at most 4,095.
-fn read_press(total: usize, file: &[u8]) -> Result<(u16, &[u8]), Fault>
-    ensures { Reads (press_at total file.now) result }
+fn read_press(file: Unread) -> Result<(u16, Unread), Fault>
+    ensures { Reads press_at file.entry result }
 {
-    let (press, rest) = two_bytes(total, file)?;
+    let (press, rest) = file.two_bytes()?;
     if press > 4095 {
-        return Err(fault_at(Refusal::Press, total, file));
+        return Err(file.fault(Refusal::Press));
     }
     Ok((press, rest))
 }
@@ -85,10 +85,10 @@ impl Filed for Sample {
         FileKind::Sample
     }
 
-    fn read_point(total: usize, file: &[u8]) -> Result<(Sample, &[u8]), Fault> {
-        let (x, rest) = four_bytes(total, file)?;
-        let (y, rest) = four_bytes(total, rest)?;
-        let (press, rest) = read_press(total, rest)?;
+    fn read_point(file: Unread) -> Result<(Sample, Unread), Fault> {
+        let (x, rest) = file.four_bytes()?;
+        let (y, rest) = rest.four_bytes()?;
+        let (press, rest) = read_press(rest)?;
         Ok((Sample { x, y, press }, rest))
     }
 }

@@ -2,6 +2,7 @@ ghost use Rattle.std.specs.Prelude.{ℕ, List};
 ghost use Rattle.pathformat.specs.Reading.{Read};
 ghost use Rattle.pathreading.specs.Outcomes.{ReadsAs};
 
+use crate::fields::Unread;
 use points::fault::Fault;
 
 // What stands many times in a file: a point or a working.
@@ -14,7 +15,7 @@ pub trait Item: Copy {
     // how it is read where some bytes are left of a file of so many
     ghost reads: { ℕ → List ℕ → Read Value };
 
-    // The item that stands next, and the bytes after it.
-    fn read(total: usize, file: &[u8]) -> Result<(Self, &[u8]), Fault>
-        ensures { ReadsAs value (reads total file.now) result };
+    // The item that stands next, and what is left after it.
+    fn read(file: Unread) -> Result<(Self, Unread), Fault>
+        ensures { ReadsAs value reads file.entry result };
 }

@@ -5,51 +5,46 @@ ghost use Rattle.pathformat.specs.File.{within};
 ghost use Rattle.pathreading.specs.Outcomes.{Skips, placing, Placed};
 ghost use Rattle.pathreading.specs.Sections.{items_of, item_at, Starts, HoldsBytes};
 
-use crate::fields::{fault_at, two_bytes};
+use crate::fields::Unread;
 use crate::item::Item;
-use points::fault::{Fault, Refusal};
+use points::fault::{Fault, Refusal, test_places};
 
-// Items that follow one another in a file of `total` bytes: how many they are, and the bytes that start with them.
+// Items that follow one another in a file: how many they are, and what is left to read where they start.
+// The type says neither which items they are nor that they read: points are items by one impl for all kinds, and a field of a generic struct cannot have a type whose fact rests on such an impl.
 #[derive(Clone, Copy)]
 pub struct Section<'a> {
-    total: usize,
     pub count: u16,
-    items: &'a [u8],
+    items: Unread<'a>,
 }
 
 impl<'a> Section<'a> {
-    // The section at the front of the bytes, and the bytes after it; a count that is not `least` to `most` is refused.
+    // The section that stands next, and what is left after it; a count that is not `least` to `most`, two numbers as contracts have them, is refused.
     pub fn read<I: Item>(
         least: u16,
         most: u16,
         refusal: Refusal,
-        total: usize,
-        file: &'a [u8],
-    ) -> Result<(Section<'a>, &'a [u8]), Fault>
-        ensures starts { Starts I.reads (counted (within least most) refusal I.reads total file.now) result }
-        ensures bytes { IfOk result (λ v. HoldsBytes total file.now v.0) }
+        file: Unread<'a>,
+    ) -> Result<(Section<'a>, Unread<'a>), Fault>
+        ensures starts { Starts I.reads (counted (within least most) refusal I.reads) file.entry result }
+        ensures bytes { IfOk result (λ v. HoldsBytes file.entry v.0) }
     {
-        let (count, items) = two_bytes(total, file)?;
-        if count < least || count > most {
-            return Err(fault_at(refusal, total, file));
+        let (count, items) = file.two_bytes()?;
+        if !(least..=most).contains(&count) {
+            return Err(file.fault(refusal));
         }
-        let section = Section {
-            total,
-            count,
-            items,
-        };
+        let section = Section { count, items };
         let rest = section.skip::<I>()?;
         Ok((section, rest))
     }
 
-    // The bytes after the items.
-    pub fn skip<I: Item>(self) -> Result<&'a [u8], Fault>
-        ensures { Skips (items_of I.reads self.entry) result }
+    // What is left after the items.
+    pub fn skip<I: Item>(self) -> Result<Unread<'a>, Fault>
+        ensures { Skips (items_of I.reads self.entry) self.entry.items result }
     {
+        // `try_fold` over the count would say the same behind a closure.
         let mut rest = self.items;
         for _ in 0..self.count {
-            let (_, more) = I::read(self.total, rest)?;
-            rest = more;
+            (_, rest) = I::read(rest)?;
         }
         Ok(rest)
     }
@@ -61,18 +56,10 @@ impl<'a> Section<'a> {
         if i >= self.count {
             return None;
         }
-        let before = Section {
-            total: self.total,
-            count: i,
-            items: self.items,
-        };
-        let Ok(rest) = before.skip::<I>() else {
-            return None;
-        };
-        match I::read(self.total, rest) {
-            Ok((item, _)) => Some(item),
-            Err(_) => None,
-        }
+        let before = Section { count: i, ..self };
+        let rest = before.skip::<I>().ok()?;
+        let (item, _) = I::read(rest).ok()?;
+        Some(item)
     }
 
     // Puts the items first on a buffer. They are passed over before that, so that a refused call writes nothing.
@@ -81,15 +68,11 @@ impl<'a> Section<'a> {
         ensures buffer { Placed I.value (values (items_of I.reads self.entry)) buffer.old buffer.new result }
     {
         let n = usize::from(self.count);
-        if buffer.len() < n {
-            return Err(Fault::new(Refusal::Short, n));
-        }
+        test_places(n, buffer.len())?;
         self.skip::<I>()?;
         let mut rest = self.items;
-        for i in 0..n {
-            let (item, more) = I::read(self.total, rest)?;
-            buffer[i] = item;
-            rest = more;
+        for place in &mut buffer[0..n] {
+            (*place, rest) = I::read(rest)?;
         }
         Ok(n)
     }

@@ -2,23 +2,23 @@ ghost use Rattle.workings.specs.declared.working.Working.{Working};
 ghost use Rattle.pathformat.specs.File.{parameter_at, working_at};
 ghost use Rattle.pathreading.specs.Outcomes.{Reads};
 
-use crate::fields::{fault_at, one_byte, two_bytes};
+use crate::fields::Unread;
 use crate::item::Item;
 use points::fault::{Fault, Refusal};
 use points::parameter::Parameter;
 use workings::working::Working;
 
 // k and a, tested once both are read.
-fn read_parameter(total: usize, file: &[u8]) -> Result<(Parameter, &[u8]), Fault>
-    ensures { Reads (parameter_at total file.now) result }
+fn read_parameter(file: Unread) -> Result<(Parameter, Unread), Fault>
+    ensures { Reads parameter_at file.entry result }
 {
-    let (k, rest) = one_byte(total, file)?;
-    let (a, rest) = two_bytes(total, rest)?;
+    let (k, rest) = file.one_byte()?;
+    let (a, rest) = rest.two_bytes()?;
     let t = Parameter { a, k };
-    match t.weight() {
-        Ok(_) => Ok((t, rest)),
-        Err(_) => Err(fault_at(Refusal::OffScale, total, file)),
+    if t.weight().is_err() {
+        return Err(file.fault(Refusal::OffScale));
     }
+    Ok((t, rest))
 }
 
 impl Item for Working {
@@ -28,20 +28,20 @@ impl Item for Working {
 
     ghost reads = { working_at };
 
-    fn read(total: usize, file: &[u8]) -> Result<(Working, &[u8]), Fault> {
-        let (letter, rest) = one_byte(total, file)?;
-        match letter as char {
+    fn read(file: Unread) -> Result<(Working, Unread), Fault> {
+        let (letter, rest) = file.one_byte()?;
+        match char::from(letter) {
             'L' => {
-                let (t, rest) = read_parameter(total, rest)?;
+                let (t, rest) = read_parameter(rest)?;
                 Ok((Working::Left(t), rest))
             }
             'R' => {
-                let (t, rest) = read_parameter(total, rest)?;
+                let (t, rest) = read_parameter(rest)?;
                 Ok((Working::Right(t), rest))
             }
             'U' => Ok((Working::Raise, rest)),
             'T' => Ok((Working::Turn, rest)),
-            _ => Err(fault_at(Refusal::Letter, total, file)),
+            _ => Err(file.fault(Refusal::Letter)),
         }
     }
 }

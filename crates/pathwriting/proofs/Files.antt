@@ -1,28 +1,22 @@
 -- A whole file, from its three steps.
-use Rattle.std.proofs.Common.{◌≡◌, ℕ, ◌+◌, ◌<◌, ◌≤◌, Bool, true, false, cond, ◌||◌, ltb, leb, List, [], ◌∷◌, ◌++◌, length, take, drop, Ok, Err, Result, sym, refl, ap, ◌∙◌, append_assoc, zero-add, arith}
-use Rattle.std.proofs.lemmas.Bool.{ltb-true, ltb-false, le-leb, and_from, or_parts}
-use Rattle.std.proofs.lemmas.List.{take_at, drop_at, length-append, length-take-le}
+use Rattle.std.proofs.Common.{◌≡◌, ℕ, ◌+◌, ◌<◌, ◌≤◌, true, false, List, [], ◌∷◌, ◌++◌, length, take, drop, Ok, Result, sym, refl, ap, ◌∙◌, zero-add, arith}
+use Rattle.std.proofs.lemmas.List.{take_at, drop_at, length-append}
+use Rattle.std.proofs.lemmas.Grind.{common_steps}
 use Rattle.points.specs.declared.fault.Fault.{Fault}
-use Rattle.points.specs.declared.fault.Refusal.TheVariants.{OffScale, Short, Degree, Overlong}
+use Rattle.points.specs.declared.fault.Refusal.TheVariants.{OffScale}
 use Rattle.points.specs.Refusals.{refuse}
 use Rattle.polygons.specs.Buffers.{sized}
 use Rattle.workings.specs.declared.working.Working.{Working}
 use Rattle.workings.specs.declared.working.Working.TheVariants.{Left, Right, Raise, Turn}
 use Rattle.workings.specs.Workings.{off_scale_in}
-use Rattle.workings.proofs.Tests.{err-ok, passed}
+use Rattle.workings.proofs.Tests.{passed}
 use Rattle.pathformat.specs.Writing.{bytes_each, Bytes, Each}
-use Rattle.pathformat.specs.File.{File, fields, few_points, few_workings, head_bytes, name_bytes, point_bytes, working_bytes, encode, decode, FieldsOk, WorkingOk, Fileable}
+use Rattle.pathformat.specs.File.{File, fields, few_points, few_workings, point_bytes, working_bytes, encode, decode, FieldsOk, WorkingOk, Fileable}
 use Rattle.pathformat.proofs.Trip.{reads-back, is-file}
 use Rattle.pathwriting.specs.Puts.{put, room_for}
 use Rattle.pathwriting.specs.Steps.{begin_bytes, name_test, parameters_test, count_test, then_test, SoFar}
 use Rattle.pathwriting.specs.Written.{write_test, WroteFile}
 use Rattle.pathwriting.proofs.Puts.{then-put}
-use Rattle.pathwriting.proofs.Items.{room-taken}
-
--- a test that went through did not refuse
-pub tests-taken : {T : Type 0} (own : Result (Unit {0}) Fault) (r : Result T Fault) (x : T) → Ok x ≡ then_test own r → (own ≡ Ok tt) × (Ok x ≡ r)
-tests-taken (Ok u) r x e = (refl, e)
-tests-taken (Err f) r x e = err-ok f x (sym e)
 
 -- what a file that was taken has passed
 pub record Passes (f : File) (places : ℕ) : Type 0 where
@@ -33,63 +27,35 @@ pub record Passes (f : File) (places : ℕ) : Type 0 where
   pub room : length (encode f) ≤ places
 
 pub passes : (f : File) (places end : ℕ) → Ok end ≡ write_test f places → Passes f places × (end ≡ length (encode f))
-passes f places end e =
-    let a = tests-taken (parameters_test f.workings) _ end e in
-    let b = tests-taken (name_test f.name) _ end a.1 in
-    let c = tests-taken (count_test f.workings) _ end b.1 in
-    let d = tests-taken (sized (length f.points)) _ end c.1 in
-    let r = room-taken (length (encode f)) places end d.1 in
-    (record { parameters = a.0; name = b.0; count = c.0; size = d.0; room = r.0 }, r.1)
-
--- a step whose tests pass is never refused
-pub never : (own : Result (Unit {0}) Fault) (n places : ℕ) (f : Fault) → own ≡ Ok tt → n ≤ places → then_test own (room_for n places) ≡ Err f → ⊥
-never own n places f o l e =
-    let q : room_for n places ≡ Err f = ap (λ v. then_test v (room_for n places)) (sym o) ∙ e in
-    by (ltb places n) refl q
-  where
-    by : (b : Bool) → ltb places n ≡ b → cond b (Err (refuse Short n)) (Ok n) ≡ Err f → ⊥
-    by true h q = let s = ltb-true places n h in omega arith
-    by false h q = err-ok f n (sym q)
+passes f places end e = grind (arith, common_steps)
 
 -- where a step that was taken ends
 pub ends_at : (own : Result (Unit {0}) Fault) (n places end : ℕ) → then_test own (room_for n places) ≡ Ok end → end ≡ n
-ends_at own n places end e = (room-taken n places end (tests-taken own (room_for n places) end (sym e)).1).1
+ends_at own n places end e = grind (arith, common_steps)
 
 -- a step that was taken puts its bytes behind the file so far
 pub behind : (own : Result (Unit {0}) Fault) (at : ℕ) (bytes before after : List ℕ) (end : ℕ) → then_test own (room_for (at + length bytes) (length before)) ≡ Ok end → after ≡ put at bytes before → take end after ≡ take at before ++ bytes
-behind own at bytes before after end e w =
-    let t = tests-taken own (room_for (at + length bytes) (length before)) end (sym e) in
-    let r = room-taken (at + length bytes) (length before) end t.1 in
-    let lead = take at before ++ bytes in
-    let tail = drop (at + length bytes) before in
-    let long : length lead ≡ end = omega (arith, r.0, r.1, length-append (take at before) bytes, length-take-le at before (omega (arith, r.0))) in
-    ap (take end) (w ∙ sym (append_assoc (take at before) bytes tail)) ∙ take_at lead tail end long
+behind own at bytes before after end e w = grind (arith, common_steps)
 
 pub continued : (own : Result (Unit {0}) Fault) (at : ℕ) (bytes before after : List ℕ) (end : ℕ) → then_test own (room_for (at + length bytes) (length before)) ≡ Ok end → after ≡ put at bytes before → (sofar : List ℕ) → SoFar at sofar before → SoFar end (sofar ++ bytes) after
 continued own at bytes before after end e w sofar h = behind own at bytes before after end e w ∙ ap (λ s. s ++ bytes) h
 
 -- the three sections in a row are the file
 pub sections-encode : (f : File) → (begin_bytes f.kind f.allowance f.name ++ bytes_each (point_bytes f.kind) f.points) ++ bytes_each working_bytes f.workings ≡ encode f
-sections-encode f =
-    append_assoc (begin_bytes f.kind f.allowance f.name) (bytes_each (point_bytes f.kind) f.points) (bytes_each working_bytes f.workings) ∙ append_assoc (head_bytes f.kind f.allowance) (name_bytes f.name) (bytes_each (point_bytes f.kind) f.points ++ bytes_each working_bytes f.workings)
+sections-encode f = grind (arith, common_steps)
 
 pub length-encode : (f : File) → length (encode f) ≡ length (begin_bytes f.kind f.allowance f.name) + (length (bytes_each (point_bytes f.kind) f.points) + length (bytes_each working_bytes f.workings))
-length-encode f =
-    let b = bytes_each (point_bytes f.kind) f.points in
-    let w = bytes_each working_bytes f.workings in
-    omega (arith, length-append f.name (b ++ w), length-append b w)
+length-encode f = grind (arith, common_steps)
 
 -- what was passed can be filed
 short-name : (nm : List ℕ) → name_test nm ≡ Ok tt → length nm ≤ 64
-short-name nm e = ltb-false 64 (length nm) (passed (ltb 64 (length nm)) (refuse Overlong (length nm)) (Ok tt) tt e).0
+short-name nm e = grind (arith, common_steps)
 
 few-points : (n : ℕ) → sized n ≡ Ok tt → few_points n ≡ true
-few-points n e =
-    let p = or_parts (ltb n 2) (ltb 17 n) (passed (ltb n 2 || ltb 17 n) (refuse Degree n) (Ok tt) tt e).0 in
-    and_from (leb 2 n) (leb n 17) (le-leb 2 n (ltb-false n 2 p.0)) (le-leb n 17 (ltb-false 17 n p.1))
+few-points n e = grind (arith, common_steps)
 
 few-workings : (ws : List Working) → count_test ws ≡ Ok tt → few_workings (length ws) ≡ true
-few-workings ws e = and_from (leb 0 (length ws)) (leb (length ws) 256) (le-leb 0 (length ws) (omega arith)) (le-leb (length ws) 256 (ltb-false 256 (length ws) (passed (ltb 256 (length ws)) (refuse Overlong (length ws)) (Ok tt) tt e).0))
+few-workings ws e = grind (arith, common_steps)
 
 on-scale : (w : Working) → off_scale_in w ≡ false → WorkingOk w
 on-scale (Left t) e = e
@@ -134,9 +100,3 @@ module _ (f : File) (d e₁ e₂ e₃ : List ℕ) (at₁ at₂ n : ℕ) where
           rewrites = λ bs b r. bytes ∙ sym (is-file f.kind bs f [] b r).bytes;
         },
       )
-
--- the tests before the points went through
-pub write-counted : (f : File) (places : ℕ) (u v w : Unit {0}) → Ok u ≡ parameters_test f.workings → Ok v ≡ name_test f.name → Ok w ≡ count_test f.workings → write_test f places ≡ then_test (sized (length f.points)) (room_for (length (encode f)) places)
-write-counted f places u v w a b c =
-    let r = then_test (sized (length f.points)) (room_for (length (encode f)) places) in
-    ap (λ t. then_test t (then_test (name_test f.name) (then_test (count_test f.workings) r))) (sym a) ∙ ap (λ t. then_test t (then_test (count_test f.workings) r)) (sym b) ∙ ap (λ t. then_test t r) (sym c)

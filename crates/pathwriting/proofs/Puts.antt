@@ -1,7 +1,8 @@
 -- Bytes put one after another.
-use Rattle.std.proofs.Common.{◌≡◌, ℕ, ◌+◌, ◌-◌, ◌≤◌, List, [], ◌++◌, length, take, drop, sym, ap, ◌∙◌, append_assoc, append-nil, zero-add, arith}
+use Rattle.std.proofs.Common.{◌≡◌, ℕ, ◌+◌, ◌-◌, ◌≤◌, List, ◌++◌, length, take, drop, sym, ap, ◌∙◌, append_assoc, arith}
 use borrow.Rule.Slice.PartMut.{put_mid}
-use Rattle.std.proofs.lemmas.List.{take_at, drop_at, length-append, length-take-le, length-drop, drop-drop, drop_all, take-append-drop}
+use Rattle.std.proofs.lemmas.Grind.{common_steps}
+use Rattle.std.proofs.lemmas.List.{take_at, drop_at, length-append, length-take-le, drop-drop}
 use Rattle.pathwriting.specs.Puts.{put}
 
 -- bytes put where others end are put together
@@ -19,16 +20,6 @@ put-put at s t d to e h =
 pub then-put : (at to : ℕ) (s t d d₁ d₂ : List ℕ) → d₁ ≡ put at s d → d₂ ≡ put to t d₁ → to ≡ at + length s → at + length s ≤ length d → d₂ ≡ put at (s ++ t) d
 then-put at to s t d d₁ d₂ e f h l = f ∙ ap (put to t) e ∙ put-put at s t d to h l
 
-pub put-none : (at : ℕ) (d : List ℕ) → put at [] d ≡ d
-put-none at d = ap (λ n. take at d ++ drop n d) (omega arith) ∙ take-append-drop at d
-
--- a part of the buffer that was written over
-pub mid-put : (a k : ℕ) (xs ys zs : List ℕ) → ys ≡ zs → k ≡ length zs → put_mid a k xs ys ≡ put a zs xs
-mid-put a k xs ys zs e f = ap (λ w. take a xs ++ (w ++ drop k (drop a xs))) e ∙ ap (λ w. take a xs ++ (zs ++ w)) (drop-drop k a xs ∙ ap (λ n. drop (a + n) xs) f)
-
 -- bytes put first onto the rest of a buffer are put where it begins
 pub rest_put : (to : ℕ) (s b part : List ℕ) (k : ℕ) → to ≤ length b → k ≡ length b - to → part ≡ put 0 s (drop to b) → to + length s ≤ length b → put_mid to k b part ≡ put to s b
-rest_put to s b part k h e p r =
-    let far : drop k (drop to b) ≡ [] = drop_all k (drop to b) (omega (arith, length-drop to b)) in
-    let first : part ≡ s ++ drop (to + length s) b = p ∙ ap (λ v. s ++ v) (ap (λ n. drop n (drop to b)) (zero-add (length s)) ∙ drop-drop (length s) to b) in
-    ap (λ v. take to b ++ (v ++ drop k (drop to b))) first ∙ ap (λ v. take to b ++ ((s ++ drop (to + length s) b) ++ v)) far ∙ ap (λ v. take to b ++ v) (append-nil (s ++ drop (to + length s) b))
+rest_put to s b part k h e p r = grind (arith, common_steps)

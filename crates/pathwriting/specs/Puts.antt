@@ -1,5 +1,7 @@
 -- Bytes put onto a buffer.
 use Rattle.std.specs.Prelude.{◌≡◌, ℕ, ◌+◌, cond, List, ◌++◌, length, take, drop, Ok, Err, Result, MatchResult, nat_lt}
+use Rattle.std.specs.Borrow.{Bor}
+use Rattle.std.specs.List.{flat_map}
 use Rattle.points.specs.declared.fault.Fault.{Fault}
 use Rattle.points.specs.declared.fault.Refusal.TheVariants.{Short}
 use Rattle.points.specs.Refusals.{refuse}
@@ -7,6 +9,10 @@ use Rattle.points.specs.Refusals.{refuse}
 -- the buffer d once the bytes s were written at a place on it
 abbrev pub put : ℕ → List ℕ → List ℕ → List ℕ
 put at s d = take at d ++ (s ++ drop (at + length s) d)
+
+-- parts one after another
+abbrev pub joined : List (Bor (List ℕ)) → List ℕ
+joined = flat_map (λ part. part.now)
 
 -- a buffer of so many places takes bytes that end at a place, or refusal 2
 abbrev pub room_for : ℕ → ℕ → Result ℕ Fault

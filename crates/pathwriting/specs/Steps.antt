@@ -7,7 +7,8 @@ use Rattle.points.specs.Points.{Point}
 use Rattle.workings.specs.declared.working.Working.{Working}
 use Rattle.workings.specs.Workings.{off_scale_in}
 use Rattle.pathformat.specs.declared.kind.FileKind.{FileKind}
-use Rattle.pathformat.specs.File.{listed, head_bytes, name_bytes}
+use Rattle.pathformat.specs.Writing.{bytes_each}
+use Rattle.pathformat.specs.File.{listed, fields, point_bytes, head_bytes, name_bytes, FieldsOk}
 use Rattle.pathwriting.specs.Puts.{put, room_for}
 
 -- the bytes that beginning a file writes
@@ -18,9 +19,24 @@ begin_bytes k a nm = head_bytes k a ++ name_bytes nm
 abbrev pub axis_values : {X : Type 0} → ℕ → (X → Point) → List X → List (List ℤ)
 axis_values width coord ps = map (λ p. listed width (coord p)) ps
 
+-- the bytes of a point, and of points after their count
+abbrev pub bytes_of_point : {X : Type 0} → FileKind → ℕ → (X → Point) → X → List ℕ
+bytes_of_point k width coord p = point_bytes k (listed width (coord p))
+
+abbrev pub bytes_of_points : {X : Type 0} → FileKind → ℕ → (X → Point) → List X → List ℕ
+bytes_of_points k width coord ps = bytes_each (point_bytes k) (axis_values width coord ps)
+
+-- a point can be filed
+abbrev pub FileablePoint : {X : Type 0} → FileKind → ℕ → (X → Point) → X → Type 0
+FileablePoint k width coord p = FieldsOk (fields k) (listed width (coord p))
+
+-- there are at most so many items
+abbrev pub most_test : {X : Type 0} → ℕ → List X → Result (Unit {0}) Fault
+most_test most xs = cond (nat_lt most (length xs)) (Err (refuse Overlong (length xs))) (Ok tt)
+
 -- a name has at most 64 bytes
 abbrev pub name_test : List ℕ → Result (Unit {0}) Fault
-name_test nm = cond (nat_lt 64 (length nm)) (Err (refuse Overlong (length nm))) (Ok tt)
+name_test = most_test 64
 
 -- the first parameter that is none is refused
 abbrev pub parameters_test : List Working → Result (Unit {0}) Fault
@@ -29,7 +45,7 @@ parameters_test (w ∷ ws) = cond (off_scale_in w) (Err (refuse OffScale 0)) (pa
 
 -- there are at most 256 workings
 abbrev pub count_test : List Working → Result (Unit {0}) Fault
-count_test ws = cond (nat_lt 256 (length ws)) (Err (refuse Overlong (length ws))) (Ok tt)
+count_test = most_test 256
 
 -- one test, then another
 abbrev pub then_test : {T : Type 0} → Result (Unit {0}) Fault → Result T Fault → Result T Fault

@@ -1,39 +1,44 @@
 ghost use Rattle.std.specs.Prelude.{◌≡◌, ◌+◌, ◌≤◌, length};
-ghost use Rattle.pathformat.specs.Writing.{bytes2, bytes4};
-ghost use Rattle.pathwriting.specs.Puts.{put, room_for};
+ghost use Rattle.pathwriting.specs.Puts.{put, joined, room_for, Writes};
 
-use points::fault::{Fault, Refusal};
+use points::fault::{Fault, test_places};
 
 // Whether a buffer of so many places has room for bytes that end at a place; else refusal 2.
 pub(crate) fn test_room(end: usize, places: usize) -> Result<usize, Fault>
     ensures { result ≡ room_for end places }
 {
-    if places < end {
-        return Err(Fault::new(Refusal::Short, end));
-    }
+    test_places(end, places)?;
     Ok(end)
 }
 
-// Bytes at a place of the buffer.
-pub(crate) fn put_bytes(buffer: &mut [u8], at: usize, bytes: &[u8])
-    requires { at + length bytes.now ≤ length buffer.old }
-    ensures { buffer.new ≡ put at bytes.now buffer.old }
+// The parts one after another, first on a buffer that has room for them.
+pub(crate) fn put_parts(buffer: &mut [u8], parts: &[&[u8]])
+    requires { length (joined parts.now) ≤ length buffer.old }
+    ensures { buffer.new ≡ put 0 (joined parts.now) buffer.old }
 {
-    buffer[at..at + bytes.len()].copy_from_slice(bytes);
+    // The parts differ in length, so their places are added up.
+    let mut to = 0;
+    for part in parts {
+        buffer[to..to + part.len()].copy_from_slice(part);
+        to += part.len();
+    }
 }
 
-// A number of two bytes.
-pub(crate) fn put_two(buffer: &mut [u8], at: usize, n: u16)
-    requires { at + 2 ≤ length buffer.old }
-    ensures { buffer.new ≡ put at (bytes2 n) buffer.old }
+// How many bytes the parts have together.
+fn parts_size(parts: &[&[u8]]) -> usize
+    requires { length (joined parts.now) ≤ 12 }
+    ensures { result ≡ length (joined parts.now) }
 {
-    put_bytes(buffer, at, &n.to_be_bytes());
+    parts.iter().map(|part| part.len()).sum()
 }
 
-// A signed number of four bytes.
-pub(crate) fn put_four(buffer: &mut [u8], at: usize, z: i32)
-    requires { at + 4 ≤ length buffer.old }
-    ensures { buffer.new ≡ put at (bytes4 z) buffer.old }
+// The parts one after another, first on a buffer; one that is shorter is refused with 2.
+pub(crate) fn write_parts(buffer: &mut [u8], parts: &[&[u8]]) -> Result<usize, Fault>
+    requires { length (joined parts.now) ≤ 12 }
+    ensures answer { result ≡ room_for (length (joined parts.now)) (length buffer.old) }
+    ensures written { Writes 0 (joined parts.now) buffer.old buffer.new result }
 {
-    put_bytes(buffer, at, &z.to_be_bytes());
+    let n = test_room(parts_size(parts), buffer.len())?;
+    put_parts(buffer, parts);
+    Ok(n)
 }

@@ -1,8 +1,8 @@
 ghost use Rattle.std.specs.Prelude.{◌≡◌, ◌≤◌, length, OnOk};
-ghost use Rattle.pathformat.specs.File.{listed, fields, point_bytes, FieldsOk};
 ghost use Rattle.pathwriting.specs.Puts.{room_for, Writes};
+ghost use Rattle.pathwriting.specs.Steps.{bytes_of_point, FileablePoint};
 
-use crate::bytes::{put_four, put_two, test_room};
+use crate::bytes::write_parts;
 use crate::encode::Encode;
 use pathreading::filed::Filed;
 use points::fault::Fault;
@@ -11,30 +11,24 @@ use points::kind::Kind;
 use points::planar::Planar;
 use points::sample::Sample;
 
-// The bytes of a height, a planar point and a sample.
-const HEIGHT_SIZE: usize = 4;
-
-const PLANAR_SIZE: usize = 8;
-
-const SAMPLE_SIZE: usize = 10;
-
-// A kind of point that path files are written with: its fields one after another.
+// A kind of point that path files are written with: its fields one after another. Each kind names its fields and their size itself.
 pub trait EncodePoint: Filed {
     // How many bytes a point has, at most 12.
     fn point_size(&self) -> usize
-        ensures { (result ≡ length (point_bytes Self.Filed.kind (listed Self.Kind.width (Self.Kind.coord self.now)))) × (result ≤ 12) };
+        ensures { (result ≡ length (bytes_of_point Self.Filed.kind Self.Kind.width Self.Kind.coord self.now)) × (result ≤ 12) };
 
     // Puts the bytes of a point first on a buffer; one that is shorter is refused with 2.
     fn write_point(&self, buffer: &mut [u8]) -> Result<usize, Fault>
-        ensures answer { result ≡ room_for (length (point_bytes Self.Filed.kind (listed Self.Kind.width (Self.Kind.coord self.now)))) (length buffer.old) }
-        ensures written { Writes 0 (point_bytes Self.Filed.kind (listed Self.Kind.width (Self.Kind.coord self.now))) buffer.old buffer.new result }
-        ensures sound { OnOk result (FieldsOk (fields Self.Filed.kind) (listed Self.Kind.width (Self.Kind.coord self.now))) };
+        ensures answer { result ≡ room_for (length (bytes_of_point Self.Filed.kind Self.Kind.width Self.Kind.coord self.now)) (length buffer.old) }
+        ensures written { Writes 0 (bytes_of_point Self.Filed.kind Self.Kind.width Self.Kind.coord self.now) buffer.old buffer.new result }
+        ensures sound { OnOk result (FileablePoint Self.Filed.kind Self.Kind.width Self.Kind.coord self.now) };
 }
 
+// A point of any such kind is an item of a file, written as its fields.
 impl<K: EncodePoint> Encode for K {
-    ghost bytes = { λ p. point_bytes K.Filed.kind (listed K.Kind.width (K.Kind.coord p)) };
+    ghost bytes = { bytes_of_point K.Filed.kind K.Kind.width K.Kind.coord };
 
-    ghost sound = { λ p. FieldsOk (fields K.Filed.kind) (listed K.Kind.width (K.Kind.coord p)) };
+    ghost sound = { FileablePoint K.Filed.kind K.Kind.width K.Kind.coord };
 
     fn size(&self) -> usize {
         self.point_size()
@@ -47,39 +41,37 @@ impl<K: EncodePoint> Encode for K {
 
 impl EncodePoint for Height {
     fn point_size(&self) -> usize {
-        HEIGHT_SIZE
+        4
     }
 
     fn write_point(&self, buffer: &mut [u8]) -> Result<usize, Fault> {
-        let n = test_room(HEIGHT_SIZE, buffer.len())?;
-        put_four(buffer, 0, self.z);
-        Ok(n)
+        write_parts(buffer, &[&self.z.to_be_bytes()])
     }
 }
 
 impl EncodePoint for Planar {
     fn point_size(&self) -> usize {
-        PLANAR_SIZE
+        8
     }
 
     fn write_point(&self, buffer: &mut [u8]) -> Result<usize, Fault> {
-        let n = test_room(PLANAR_SIZE, buffer.len())?;
-        put_four(buffer, 0, self.x);
-        put_four(buffer, 4, self.y);
-        Ok(n)
+        write_parts(buffer, &[&self.x.to_be_bytes(), &self.y.to_be_bytes()])
     }
 }
 
 impl EncodePoint for Sample {
     fn point_size(&self) -> usize {
-        SAMPLE_SIZE
+        10
     }
 
     fn write_point(&self, buffer: &mut [u8]) -> Result<usize, Fault> {
-        let n = test_room(SAMPLE_SIZE, buffer.len())?;
-        put_four(buffer, 0, self.x);
-        put_four(buffer, 4, self.y);
-        put_two(buffer, 8, self.pressed());
-        Ok(n)
+        write_parts(
+            buffer,
+            &[
+                &self.x.to_be_bytes(),
+                &self.y.to_be_bytes(),
+                &self.pressed().to_be_bytes(),
+            ],
+        )
     }
 }

@@ -2,6 +2,7 @@
 use Rattle.std.proofs.Common.{List, [], ◌∷◌, sym, refl, ◌∙◌}
 use Rattle.samepath.specs.Same.{SameWorking, parameter, Pairwise, SamePath, Equivalence}
 use Rattle.samepath.proofs.Shifts.{number-trans}
+use Rattle.samepath.proofs.Pairs.{pairs-same}
 
 same-workings : Equivalence SameWorking
 same-workings = record {
@@ -12,12 +13,8 @@ same-workings = record {
 
 -- one by one, an equivalence stays one
 pairs : {X : Type 0} (R : X → X → Type 0) → Equivalence R → Equivalence (Pairwise R)
-pairs {X = X} R e = record { reflexive = same; symmetric = turn; transitive = through }
+pairs {X = X} R e = record { reflexive = pairs-same R e.reflexive; symmetric = turn; transitive = through }
   where
-    same : (xs : List X) → Pairwise R xs xs
-    same [] = tt
-    same (x ∷ xs) = (e.reflexive x, same xs)
-
     turn : (xs ys : List X) → Pairwise R xs ys → Pairwise R ys xs
     turn [] [] h = tt
     turn [] (y ∷ ys) h = h

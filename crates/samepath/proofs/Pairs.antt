@@ -1,92 +1,93 @@
 -- Lists that agree one by one.
-use Rattle.std.proofs.Common.{◌≡◌, ℕ, zero, suc, ◌+◌, ◌<◌, ◌≤◌, Bool, true, false, List, [], ◌∷◌, length, take, Some, None, Decides, sym, refl, ap, subst, add-one, arith}
-use Rattle.std.specs.List.{slice_get}
-use Rattle.std.proofs.lemmas.List.{take_all}
+use Rattle.std.proofs.Common.{◌≡◌, ℕ, suc, ◌<◌, Bool, true, false, nat_eq, ◌≢◌, List, [], ◌∷◌, length, get_or, ⊎_elim, Some, Decides, sym, refl, ◌∙◌, subst, zero-add, arith}
+use Rattle.std.specs.Bool.{MatchBool}
+use Rattle.std.specs.List.{slice_get, range_with_len, AllWithin, AllZip, HoldsAt}
+use Rattle.std.proofs.lemmas.List.FromFn.{length-range_with_len, get_or-range_with_len}
+use Rattle.std.proofs.lemmas.Bool.{eqb-true}
+use Rattle.std.proofs.lemmas.List.Elements.{length_all_zip, AllZip-get_or, same_from_all_zip}
+use Rattle.std.proofs.lemmas.Option.{slice_get_cases, slice_get_within, get_or_from_slice_get}
 use Rattle.std.proofs.lemmas.Bool.Decides.{not_from_Decides}
-use Rattle.points.specs.declared.fault.Fault.{Fault}
-use Rattle.pathformat.specs.declared.kind.FileKind.{FileKind}
-use Rattle.pathformat.specs.Reading.{bad}
+use Rattle.points.specs.declared.kind.Kind.{Ghosts as Kind}
+use Rattle.pathreading.specs.declared.filed.Filed.{Ghosts as Filed}
 use Rattle.pathfiles.specs.declared.opened.Opened.{Opened}
-use Rattle.pathfiles.specs.Opened.{says, Said}
-use Rattle.samepath.specs.Same.{SameWorking, Pairwise, SameSaid, SayBoth}
+use Rattle.pathfiles.specs.Opened.{file_of}
+use Rattle.pathfiles.proofs.Says.{says-file, file-of-is}
+use Rattle.samepath.specs.Same.{SameWorking, Pairwise, SamePath, SameSaid}
 
-pub some_in : {X : Type 0} (xs : List X) (i : ℕ) → i < length xs → None ≡ slice_get xs i → ⊥
-some_in [] i h e = omega arith
-some_in (x ∷ xs) zero h e = let z : ◌≡◌ {A = ℕ} 0 1 = cc in omega arith
-some_in (x ∷ xs) (suc i) h e = some_in xs i (omega arith) e
+some-at : {X : Type 0} (xs : List X) (i : ℕ) → i < length xs → (x : X) × (Some x ≡ slice_get xs i)
+some-at xs i h = ⊎_elim (λ p. (p.0, sym p.2)) (λ p. absurd (omega (arith, p.0))) (slice_get_cases xs i).1
 
 module _ {X : Type 0} (R : X → X → Type 0) where
-  pub pairs-length : (xs ys : List X) → Pairwise R xs ys → length xs ≡ length ys
-  pairs-length [] [] h = refl
-  pairs-length [] (y ∷ ys) h = absurd h
-  pairs-length (x ∷ xs) [] h = absurd h
-  pairs-length (x ∷ xs) (y ∷ ys) h = ap suc (pairs-length xs ys h.1)
+  -- they agree place by place, as the library says it
+  zipped : (xs ys : List X) → Pairwise R xs ys → AllZip R xs ys
+  zipped [] [] h = tt
+  zipped [] (y ∷ ys) h = h
+  zipped (x ∷ xs) [] h = h
+  zipped (x ∷ xs) (y ∷ ys) h = (h.0, zipped xs ys h.1)
 
-  -- one more of each
-  more : (i : ℕ) (xs ys : List X) (x y : X) → Pairwise R (take i xs) (take i ys) → Some x ≡ slice_get xs i → Some y ≡ slice_get ys i → R x y → Pairwise R (take (suc i) xs) (take (suc i) ys)
-  more i [] ys x y h p q r = absurd (let z : ◌≡◌ {A = ℕ} 0 1 = cc in omega arith)
-  more i (a ∷ xs) [] x y h p q r = absurd (let z : ◌≡◌ {A = ℕ} 0 1 = cc in omega arith)
-  more zero (a ∷ xs) (b ∷ ys) x y h p q r =
-      let u : x ≡ a = cc in
-      let v : y ≡ b = cc in
-      (subst (λ c. R c b) u (subst (R x) v r), tt)
-  more (suc i) (a ∷ xs) (b ∷ ys) x y h p q r = (h.0, more i xs ys x y h.1 p q r)
+  pub pairs-same : ((x : X) → R x x) → (xs : List X) → Pairwise R xs xs
+  pairs-same same [] = tt
+  pairs-same same (x ∷ xs) = (same x, pairs-same same xs)
 
-  pub pairs-more : (i : ℕ) (xs ys : List X) (x y : X) → Pairwise R (take i xs) (take i ys) → Some x ≡ slice_get xs i → Some y ≡ slice_get ys i → R x y → Pairwise R (take (i + 1) xs) (take (i + 1) ys)
-  pairs-more i xs ys x y h p q r = subst (λ n. Pairwise R (take n xs) (take n ys)) (sym (add-one i)) (more i xs ys x y h p q r)
+  -- the items at an index agree, or they do not
+  abbrev pub AgreeAt : List X → List X → ℕ → Type 0
+  AgreeAt xs ys i = (x y : X) → Some x ≡ slice_get xs i → Some y ≡ slice_get ys i → R x y
 
-  pub pairs-at : (xs ys : List X) (i : ℕ) (x y : X) → Pairwise R xs ys → Some x ≡ slice_get xs i → Some y ≡ slice_get ys i → R x y
-  pairs-at [] ys i x y h p q = absurd (let z : ◌≡◌ {A = ℕ} 0 1 = cc in omega arith)
-  pairs-at (a ∷ xs) [] i x y h p q = absurd (let z : ◌≡◌ {A = ℕ} 0 1 = cc in omega arith)
-  pairs-at (a ∷ xs) (b ∷ ys) zero x y h p q =
-      let u : a ≡ x = cc in
-      let v : b ≡ y = cc in
-      subst (λ c. R c y) u (subst (R a) v h.0)
-  pairs-at (a ∷ xs) (b ∷ ys) (suc i) x y h p q = pairs-at xs ys i x y h.1 p q
+  abbrev pub DifferAt : List X → List X → ℕ → Type 0
+  DifferAt xs ys i = (x y : X) → Some x ≡ slice_get xs i → Some y ≡ slice_get ys i → R x y → ⊥
 
-  pub pairs-all : (n : ℕ) (xs ys : List X) → length xs ≤ n → length ys ≤ n → Pairwise R (take n xs) (take n ys) → Pairwise R xs ys
-  pairs-all n xs ys l m h = subst (λ zs. Pairwise R zs ys) (take_all n xs l) (subst (Pairwise R (take n xs)) (take_all n ys m) h)
+  pairs-at : (xs ys : List X) (i : ℕ) → Pairwise R xs ys → AgreeAt xs ys i
+  pairs-at xs ys i h x y p q =
+      let z : R (get_or xs i x) (get_or ys i y) = AllZip-get_or R xs ys i x y (zipped xs ys h) (slice_get_within xs i x (sym p)) in
+      subst (λ c. R c y) (get_or_from_slice_get xs i x x (sym p)) (subst (R (get_or xs i x)) (get_or_from_slice_get ys i y y (sym q)) z)
+
+  pairs-from : (xs ys : List X) → length xs ≡ length ys → ((i : ℕ) → i < length xs → AgreeAt xs ys i) → Pairwise R xs ys
+  pairs-from [] [] l h = tt
+  pairs-from [] (y ∷ ys) l h = absurd (omega arith)
+  pairs-from (x ∷ xs) [] l h = absurd (omega arith)
+  pairs-from (x ∷ xs) (y ∷ ys) l h = (h 0 (omega arith) x y refl refl, pairs-from xs ys (omega arith) (λ i m. h (suc i) (omega arith)))
+
+  -- the indices below n were tried, where both lists have n items
+  pub pairs-tried : (r : Bool) (xs ys : List X) (n : ℕ) → n ≡ length xs → n ≡ length ys → MatchBool r (AllWithin (AgreeAt xs ys) (range_with_len 0 n) 0 (length (range_with_len 0 n))) ((k : ℕ) × (k < length (range_with_len 0 n)) × HoldsAt (DifferAt xs ys) (range_with_len 0 n) k) → Decides r (Pairwise R xs ys)
+  pairs-tried true xs ys n l m h =
+      let each : (i : ℕ) → i < length xs → AgreeAt xs ys i = λ i b. subst (AgreeAt xs ys) (get_or-range_with_len 0 n i 0 (omega arith) ∙ zero-add i) (h i 0 (omega arith) (omega (arith, length-range_with_len 0 n))) in
+      ((λ _. pairs-from xs ys (sym l ∙ m) each), (λ _. refl))
+  pairs-tried false xs ys n l m (k, b, d) =
+      let c : k < n = omega (arith, length-range_with_len 0 n) in
+      let differ : DifferAt xs ys k = subst (DifferAt xs ys) (get_or-range_with_len 0 n k 0 c ∙ zero-add k) (d 0) in
+      let x = some-at xs k (omega arith) in
+      let y = some-at ys k (omega arith) in
+      ((λ e. absurd (cc)), (λ p. absurd (differ x.0 y.0 x.1 y.1 (pairs-at xs ys k p x.0 y.0 x.1 y.1))))
+
+  -- lists of other lengths do not agree
+  pub pairs-uneven : (xs ys : List X) (m n : ℕ) → m ≡ length xs → n ≡ length ys → (m ≢ n) → Decides (nat_eq m n) (Pairwise R xs ys)
+  pairs-uneven xs ys m n l k e = ((λ t. absurd (e (eqb-true m n t))), (λ p. absurd (e (l ∙ length_all_zip R xs ys (zipped xs ys p) ∙ sym k))))
 
 pub equal-from : {X : Type 0} (xs ys : List X) → Pairwise (λ x y. x ≡ y) xs ys → xs ≡ ys
-equal-from [] [] h = refl
-equal-from [] (y ∷ ys) h = absurd h
-equal-from (x ∷ xs) [] h = absurd h
-equal-from (x ∷ xs) (y ∷ ys) h = λ i. h.0 i ∷ equal-from xs ys h.1 i
-
-pub pairs-same : {X : Type 0} (xs : List X) → Pairwise (λ x y. x ≡ y) xs xs
-pairs-same [] = tt
-pairs-same (x ∷ xs) = (refl, pairs-same xs)
+equal-from xs ys h = sym (same_from_all_zip _ xs ys (zipped _ xs ys h) (λ x y e. sym e))
 
 pub refuted : {P : Type 0} → (P → ⊥) → Decides false P
-refuted h = ((λ e. absurd (let z : ◌≡◌ {A = ℕ} 0 1 = cc in omega arith)), (λ p. absurd (h p)))
-
-pub decided : {P : Type 0} → P → Decides true P
-decided p = ((λ _. p), (λ _. refl))
+refuted h = ((λ e. absurd (cc)), (λ p. absurd (h p)))
 
 -- two opened files, from their points and their workings
-module _ {K : Type 0} (k : FileKind) (a b : Opened K) where
-  pub unsaid-first : (e : Fault) → says k a ≡ bad e → SameSaid k a b → ⊥
-  unsaid-first e h d = let p = d.first_said in let z : ◌≡◌ {A = ℕ} 0 1 = cc in omega arith
+module _ {K : Type 0} {fs : Filed K} {ks : Kind K} (a b : Opened K fs ks) (r s : Bool) (points : Decides r (Pairwise (λ x y. x ≡ y) (file_of fs.kind a).points (file_of fs.kind b).points)) where
+  -- what both say is what they are
+  of-said : SameSaid fs.kind a b → SamePath (file_of fs.kind a) (file_of fs.kind b)
+  of-said d =
+      subst (λ f. SamePath f (file_of fs.kind b)) (sym (file-of-is fs.kind a d.first d.first_said)) (subst (SamePath d.first) (sym (file-of-is fs.kind b d.second d.second_said)) d.same)
 
-  pub unsaid-second : (e : Fault) → says k b ≡ bad e → SameSaid k a b → ⊥
-  unsaid-second e h d = let p = d.second_said in let z : ◌≡◌ {A = ℕ} 0 1 = cc in omega arith
+  pub other-points : r ≡ false → SameSaid fs.kind a b → ⊥
+  other-points e d =
+      not_from_Decides r points e (subst (Pairwise (λ x y. x ≡ y) (file_of fs.kind a).points) (of-said d).points (pairs-same _ (λ x. refl) (file_of fs.kind a).points))
 
-  module _ (r : Bool) (points : SayBoth k a b (λ f g. Decides r (Pairwise (λ x y. x ≡ y) f.points g.points))) where
-    pub other-points : r ≡ false → SameSaid k a b → ⊥
-    other-points e d =
-        not_from_Decides r (points d.first d.second d.first_said d.second_said) e (subst (Pairwise (λ x y. x ≡ y) d.first.points) d.same.points (pairs-same d.first.points))
-
-    pub by-workings : r ≡ true → (s : Bool) → Said k a → Said k b → SayBoth k a b (λ f g. Decides s (Pairwise SameWorking f.workings g.workings)) → Decides s (SameSaid k a b)
-    by-workings e s t u workings = (
-      (λ h. record {
-        first = t.file;
-        second = u.file;
-        first_said = t.said;
-        second_said = u.said;
-        same = record {
-          points = equal-from _ _ ((points t.file u.file t.said u.said).0 e);
-          workings = (workings t.file u.file t.said u.said).0 h;
-        };
-      }),
-      (λ d. (workings d.first d.second d.first_said d.second_said).1 d.same.workings),
-    )
+  pub by-workings : r ≡ true → Decides s (Pairwise SameWorking (file_of fs.kind a).workings (file_of fs.kind b).workings) → Decides s (SameSaid fs.kind a b)
+  by-workings e workings = (
+    (λ h. record {
+      first = file_of fs.kind a;
+      second = file_of fs.kind b;
+      first_said = says-file a;
+      second_said = says-file b;
+      same = record { points = equal-from _ _ (points.0 e); workings = workings.0 h };
+    }),
+    (λ d. workings.1 (of-said d).workings),
+  )

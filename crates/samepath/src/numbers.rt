@@ -33,22 +33,11 @@ pub fn same_number(s: Parameter, t: Parameter) -> bool
 pub fn same_working(v: Working, w: Working) -> bool
     ensures { Decides result (SameWorking v w) }
 {
-    match v {
-        Working::Left(s) => match w {
-            Working::Left(t) => same_number(s, t),
-            _ => false,
-        },
-        Working::Right(s) => match w {
-            Working::Right(t) => same_number(s, t),
-            _ => false,
-        },
-        Working::Raise => match w {
-            Working::Raise => true,
-            _ => false,
-        },
-        Working::Turn => match w {
-            Working::Turn => true,
-            _ => false,
-        },
+    match (v, w) {
+        (Working::Left(s), Working::Left(t)) | (Working::Right(s), Working::Right(t)) => {
+            same_number(s, t)
+        }
+        (Working::Raise, Working::Raise) | (Working::Turn, Working::Turn) => true,
+        _ => false,
     }
 }

@@ -1,52 +1,36 @@
-use Rattle.std.proofs.Common.{◌≡◌, List, map, length, Ok, sym, ap, ◌∙◌, arith}
-use Rattle.std.proofs.lemmas.List.{length-map}
+use Rattle.std.proofs.Common.{◌≡◌, ◌+◌, ◌≤◌, length, Ok, refl, sym, ap, ◌∙◌, arith}
+use Rattle.std.proofs.lemmas.Grind.{common_steps}
 use Rattle.polygons.specs.Buffers.{sized}
-use Rattle.pathformat.specs.File.{File, listed}
+use Rattle.pathformat.specs.Writing.{bytes_each, Each}
+use Rattle.pathformat.specs.File.{File, fields, working_bytes, FieldsOk}
 use Rattle.pathformat.proofs.Fields.{bytes-from}
-use Rattle.pathwriting.specs.Steps.{axis_values, name_test, parameters_test, workings_test, then_test}
+use Rattle.pathwriting.specs.Puts.{put, room_for}
+use Rattle.pathwriting.specs.Steps.{begin_bytes, axis_values, bytes_of_points, name_test, parameters_test, workings_test, then_test}
 use Rattle.pathwriting.specs.Written.{file_of}
-use Rattle.pathwriting.proofs.Files.{passes, never, ends_at, length-encode, can-be-filed, whole}
+use Rattle.pathwriting.proofs.Files.{passes, ends_at, length-encode, can-be-filed, whole}
 use Rattle.pathwriting.proofs.whole.write_file.Goals as goal
 
-pub returns-in-Err : goal.returns-in-Err
-returns-in-Err g c =
-    let f : File = file_of g.K.Filed.kind c.args.allowance c.args.name.now (axis_values g.K.Kind.width g.K.Kind.coord c.args.points.now) c.args.workings.now in
-    let p = (passes f (length c.args.buffer.now) _ c.in_ok-test_file.ensures).0 in
-    absurd (never (name_test c.args.name.now) _ _ _ p.name (omega (arith, p.room, length-encode f)) c.in-Err.ensures.step.0)
-
--- the points are tested by their number
-few : {X Y : Type 0} (g : X → Y) (xs : List X) → sized (length (map g xs)) ≡ Ok tt → sized (length xs) ≡ Ok tt
-few g xs e = ap sized (sym (length-map xs g)) ∙ e
-
-pub returns-in-Err-points : goal.returns-in-Err-points
-returns-in-Err-points g c =
-    let ps = c.args.points.now in
-    let f : File = file_of g.K.Filed.kind c.args.allowance c.args.name.now (axis_values g.K.Kind.width g.K.Kind.coord ps) c.args.workings.now in
-    let p = (passes f (length c.args.buffer.now) _ c.in_ok-test_file.ensures).0 in
-    let at = ends_at (name_test c.args.name.now) _ _ _ c.in-Ok.ensures.step.0 in
-    absurd (never (sized (length ps)) _ _ _ (few (λ (x : g.row.K.Denot). listed g.K.Kind.width (g.K.Kind.coord x)) ps p.size) (omega (arith, p.room, length-encode f, at, c.begin.auto.buffer)) c.in-Err-points.ensures.step.0)
-
-pub returns-in-Ok-close : goal.returns-in-Ok-close
-returns-in-Ok-close g c =
+pub returns : goal.returns
+returns g c =
+    let k = g.K.Filed.kind in
     let ps = c.args.points.now in
     let nm = c.args.name.now in
-    let f : File = file_of g.K.Filed.kind c.args.allowance nm (axis_values g.K.Kind.width g.K.Kind.coord ps) c.args.workings.now in
-    let p = passes f (length c.args.buffer.now) _ c.in_ok-test_file.ensures in
-    let b = c.in-Ok.ensures.step in
-    let v = c.in-Ok-points.ensures in
-    let w = c.in-Ok-close.ensures.step in
-    let fine = can-be-filed f (length c.args.buffer.now) p.0 (omega arith) (bytes-from nm c.type_inv.name) v.sound in
-    let all = whole f c.args.buffer.now c.begin.new.buffer c.points.new.buffer c.close.new.buffer _ _ _ (ends_at (name_test nm) _ _ _ b.0) (ends_at (sized (length ps)) _ _ _ v.step.0) (ends_at (workings_test c.args.workings.now) _ _ _ w.0) b.1 v.step.1 w.1 p.0.room fine in
+    let d = c.args.buffer.now in
+    let f : File = file_of k c.args.allowance nm (axis_values g.K.Kind.width g.K.Kind.coord ps) c.args.workings.now in
+    let p = passes f (length d) _ c.in_ok-test_file.ensures in
+    let b : (then_test (name_test nm) (room_for (0 + length (begin_bytes k c.args.allowance nm)) (length d)) ≡ Ok c.in_ok-begun.begun.end) × (c.begin.new.buffer ≡ put 0 (begin_bytes k c.args.allowance nm) d) = grind (arith, common_steps, c.in_ok-begun.was, c.map_err.ensures.cases, c.begin.ensures.step) in
+    let bs₂ = bytes_of_points k g.K.Kind.width g.K.Kind.coord ps in
+    let v : (then_test (sized (length ps)) (room_for (c.in_ok-begun.begun.end + length bs₂) (length c.begin.new.buffer)) ≡ Ok c.in_ok-pointed.pointed.end) × (c.points.new.buffer ≡ put c.in_ok-begun.begun.end bs₂ c.begin.new.buffer) = grind (arith, common_steps, c.in_ok-pointed.was, c.map_err-2.ensures.cases, c.points.ensures.step) in
+    let sound : Each (FieldsOk (fields k)) f.points = grind (arith, common_steps, c.in_ok-pointed.was, c.map_err-2.ensures.cases, c.points.ensures.sound) in
+    let at₁ = ends_at (name_test nm) (0 + length (begin_bytes k c.args.allowance nm)) (length d) _ b.0 in
+    let at₂ = ends_at (sized (length ps)) (c.in_ok-begun.begun.end + length bs₂) (length c.begin.new.buffer) _ v.0 in
+    let bs₃ = bytes_each working_bytes c.args.workings.now in
+    let room : c.in_ok-pointed.pointed.end + length bs₃ ≤ length c.points.new.buffer = omega (arith, p.0.room, length-encode f, at₁, at₂, c.begin.auto.buffer, c.points.auto.buffer) in
+    let own : workings_test c.args.workings.now ≡ Ok tt = ap (λ t. then_test t (parameters_test c.args.workings.now)) p.0.count ∙ p.0.parameters in
+    let w : (c.map_err-3.result ≡ Ok (c.in_ok-pointed.pointed.end + length bs₃)) × (c.close.new.buffer ≡ put c.in_ok-pointed.pointed.end bs₃ c.points.new.buffer) = grind (arith, common_steps, c.map_err-3.ensures.cases, c.close.ensures.step) in
+    let fine = can-be-filed f (length d) p.0 (omega arith) (bytes-from nm c.type_inv.name) sound in
+    let all = whole f d c.begin.new.buffer c.points.new.buffer c.close.new.buffer _ _ _ at₁ at₂ refl b.1 v.1 w.1 p.0.room fine in
     record {
-      answer = ap Ok (all.0 ∙ sym p.1) ∙ c.in_ok-test_file.ensures;
-      written = all.1;
+      answer = w.0 ∙ ap Ok (all.0 ∙ sym p.1) ∙ c.in_ok-test_file.ensures;
+      written = rw w.0 all.1;
     }
-
-pub returns-in-Err-close : goal.returns-in-Err-close
-returns-in-Err-close g c =
-    let ps = c.args.points.now in
-    let f : File = file_of g.K.Filed.kind c.args.allowance c.args.name.now (axis_values g.K.Kind.width g.K.Kind.coord ps) c.args.workings.now in
-    let p = (passes f (length c.args.buffer.now) _ c.in_ok-test_file.ensures).0 in
-    let at = ends_at (name_test c.args.name.now) _ _ _ c.in-Ok.ensures.step.0 in
-    let to = ends_at (sized (length ps)) _ _ _ c.in-Ok-points.ensures.step.0 in
-    absurd (never (workings_test c.args.workings.now) _ _ _ (ap (λ t. then_test t (parameters_test c.args.workings.now)) p.count ∙ p.parameters) (omega (arith, p.room, length-encode f, at, to, c.begin.auto.buffer, c.points.auto.buffer)) c.in-Err-close.ensures.step.0)

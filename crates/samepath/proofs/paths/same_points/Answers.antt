@@ -1,26 +1,19 @@
-use Rattle.std.proofs.Common.{◌≡◌, sym, ap, ◌∙◌, arith}
-use Rattle.pathformat.specs.File.{listed}
+use Rattle.std.proofs.Common.{◌≡◌, refl, ◌∙◌, rules, arith}
+use Rattle.std.proofs.lemmas.Grind.{common_steps}
+use Rattle.std.proofs.lemmas.Iterator.{cases_from_all, YieldsList-from_range}
 use Rattle.pathformat.proofs.Axes.{listed_same}
-use Rattle.samepath.proofs.Pairs.{some_in, pairs-length, pairs-more, pairs-at, pairs-all, refuted, decided}
+use Rattle.pathfiles.specs.Opened.{file_of}
+use Rattle.samepath.proofs.Pairs.{AgreeAt, DifferAt, pairs-tried, pairs-uneven}
 use Rattle.samepath.proofs.paths.same_points.Goals as goal
 
-pub returns-then-point_count-n : goal.returns-then-point_count-n
-returns-then-point_count-n g c = λ f h ef eh. refuted (λ p. c.if-point_count-n.true (c.point_count.ensures.said h eh ∙ sym (pairs-length (λ x y. x ≡ y) f.points h.points p) ∙ sym (c.point_count-n.ensures.said f ef)))
+pub returns-then-n-point_count : goal.returns-then-n-point_count
+returns-then-n-point_count g c =
+    let xs = (file_of g.K.Filed.kind c.args.a.now).points in
+    let ys = (file_of g.K.Filed.kind c.args.b.now).points in
+    let n = c.point_count-n.result in
+    pairs-tried (λ x y. x ≡ y) c.all.result xs ys n c.point_count-n.ensures.said (c.if-n-point_count.true ∙ c.point_count.ensures.said)
+    (cases_from_all _ _ c.all.result (AgreeAt (λ x y. x ≡ y) xs ys) (DifferAt (λ x y. x ≡ y) xs ys) c.all.ensures.ran (YieldsList-from_range 0 n n refl (omega arith)) (λ i q k. (search rules, λ x y p r. search rules)) (λ i q k x y p r e. let same = listed_same g.K.Kind.width g.K.Kind.coord g.met.K.Kind.lacks in grind (arith, common_steps, k, same)))
 
-pub loop-i-init : goal.loop-i-init
-loop-i-init g c = λ f h ef eh. tt
-
-pub returns-in_default : goal.returns-in_default
-returns-in_default g c = λ f h ef eh. absurd (some_in f.points c.loop-i.i (omega (arith, c.loop-i-test.true, c.point_count-n.ensures.said f ef)) (c.in_default.ensures.said f ef))
-
-pub returns-in_default-point : goal.returns-in_default-point
-returns-in_default-point g c = λ f h ef eh. absurd (some_in h.points c.loop-i.i (omega (arith, c.loop-i-test.true, c.if-point_count-n.false, c.point_count.ensures.said h eh)) (c.in_default-point.ensures.said h eh))
-
-pub returns-then-not-same : goal.returns-then-not-same
-returns-then-not-same g c = λ f h ef eh. refuted (λ p. c.same.ensures.other c.if-not-same.true (listed_same g.K.Kind.width g.K.Kind.coord g.met.K.Kind.lacks _ _ (pairs-at (λ x y. x ≡ y) f.points h.points c.loop-i.i _ _ p (c.in-Some.ensures.said f ef) (c.in-Some-point.ensures.said h eh))))
-
-pub loop-i-preserved : goal.loop-i-preserved
-loop-i-preserved g c = λ f h ef eh. pairs-more (λ x y. x ≡ y) c.loop-i.i f.points h.points _ _ (c.loop-i.invariant f h ef eh) (c.in-Some.ensures.said f ef) (c.in-Some-point.ensures.said h eh) (ap (listed g.K.Kind.width) (c.same.ensures.same c.if-not-same.false))
-
-pub returns : goal.returns
-returns g c = λ f h ef eh. decided (pairs-all (λ x y. x ≡ y) c.loop-i.i f.points h.points (omega (arith, c.loop-i-test.false, c.point_count-n.ensures.said f ef)) (omega (arith, c.loop-i-test.false, c.if-point_count-n.false, c.point_count.ensures.said h eh)) (c.loop-i.invariant f h ef eh))
+pub returns-else-n-point_count : goal.returns-else-n-point_count
+returns-else-n-point_count g c =
+    pairs-uneven (λ x y. x ≡ y) (file_of g.K.Filed.kind c.args.a.now).points (file_of g.K.Filed.kind c.args.b.now).points c.point_count-n.result c.point_count.result c.point_count-n.ensures.said c.point_count.ensures.said c.if-n-point_count.false

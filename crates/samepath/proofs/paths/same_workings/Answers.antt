@@ -1,26 +1,19 @@
-use Rattle.std.proofs.Common.{sym, ◌∙◌, arith}
-use Rattle.std.proofs.lemmas.Bool.Decides.{not_from_Decides}
+use Rattle.std.proofs.Common.{refl, ◌∙◌, rules, arith}
+use Rattle.std.proofs.lemmas.Grind.{common_steps}
+use Rattle.std.proofs.lemmas.Iterator.{cases_from_all, YieldsList-from_range}
+use Rattle.pathfiles.specs.Opened.{file_of}
 use Rattle.samepath.specs.Same.{SameWorking}
-use Rattle.samepath.proofs.Pairs.{some_in, pairs-length, pairs-more, pairs-at, pairs-all, refuted, decided}
+use Rattle.samepath.proofs.Pairs.{AgreeAt, DifferAt, pairs-tried, pairs-uneven}
 use Rattle.samepath.proofs.paths.same_workings.Goals as goal
 
-pub returns-then-working_count-n : goal.returns-then-working_count-n
-returns-then-working_count-n g c = λ f h ef eh. refuted (λ p. c.if-working_count-n.true (c.working_count.ensures.said h eh ∙ sym (pairs-length SameWorking f.workings h.workings p) ∙ sym (c.working_count-n.ensures.said f ef)))
+pub returns-then-n-working_count : goal.returns-then-n-working_count
+returns-then-n-working_count g c =
+    let xs = (file_of g.K.Filed.kind c.args.a.now).workings in
+    let ys = (file_of g.K.Filed.kind c.args.b.now).workings in
+    let n = c.working_count-n.result in
+    pairs-tried SameWorking c.all.result xs ys n c.working_count-n.ensures.said (c.if-n-working_count.true ∙ c.working_count.ensures.said)
+    (cases_from_all _ _ c.all.result (AgreeAt SameWorking xs ys) (DifferAt SameWorking xs ys) c.all.ensures.ran (YieldsList-from_range 0 n n refl (omega arith)) (λ i q k. (search rules, λ x y p r. grind (arith, common_steps, k))) (λ i q k x y p r e. grind (arith, common_steps, k)))
 
-pub loop-i-init : goal.loop-i-init
-loop-i-init g c = λ f h ef eh. tt
-
-pub returns-in_default : goal.returns-in_default
-returns-in_default g c = λ f h ef eh. absurd (some_in f.workings c.loop-i.i (omega (arith, c.loop-i-test.true, c.working_count-n.ensures.said f ef)) (c.in_default.ensures.said f ef))
-
-pub returns-in_default-working : goal.returns-in_default-working
-returns-in_default-working g c = λ f h ef eh. absurd (some_in h.workings c.loop-i.i (omega (arith, c.loop-i-test.true, c.if-working_count-n.false, c.working_count.ensures.said h eh)) (c.in_default-working.ensures.said h eh))
-
-pub returns-then-not-same_working : goal.returns-then-not-same_working
-returns-then-not-same_working g c = λ f h ef eh. refuted (λ p. (not_from_Decides c.same_working.result c.same_working.ensures c.if-not-same_working.true) (pairs-at SameWorking f.workings h.workings c.loop-i.i _ _ p (c.in-Some.ensures.said f ef) (c.in-Some-working.ensures.said h eh)))
-
-pub loop-i-preserved : goal.loop-i-preserved
-loop-i-preserved g c = λ f h ef eh. pairs-more SameWorking c.loop-i.i f.workings h.workings _ _ (c.loop-i.invariant f h ef eh) (c.in-Some.ensures.said f ef) (c.in-Some-working.ensures.said h eh) (c.same_working.ensures.0 c.if-not-same_working.false)
-
-pub returns : goal.returns
-returns g c = λ f h ef eh. decided (pairs-all SameWorking c.loop-i.i f.workings h.workings (omega (arith, c.loop-i-test.false, c.working_count-n.ensures.said f ef)) (omega (arith, c.loop-i-test.false, c.if-working_count-n.false, c.working_count.ensures.said h eh)) (c.loop-i.invariant f h ef eh))
+pub returns-else-n-working_count : goal.returns-else-n-working_count
+returns-else-n-working_count g c =
+    pairs-uneven SameWorking (file_of g.K.Filed.kind c.args.a.now).workings (file_of g.K.Filed.kind c.args.b.now).workings c.working_count-n.result c.working_count.result c.working_count-n.ensures.said c.working_count.ensures.said c.if-n-working_count.false

@@ -1,8 +1,8 @@
 use Rattle.std.proofs.Common.{sym, ◌∙◌}
-use Rattle.pathfiles.proofs.Says.{working-said, mapped-same}
+use Rattle.std.proofs.lemmas.Iterator.Adapters.{option_map_id}
+use Rattle.pathformat.specs.File.{working_at}
+use Rattle.pathreading.proofs.Sections.{item-read}
 use Rattle.pathfiles.proofs.opened.Opened.working.Goals as goal
 
-pub returns : goal.returns
-returns g c =
-    let r = sym (mapped-same c.item.result) ∙ c.item.ensures in
-    record { answer = r; said = λ f e. r ∙ working-said g.K.Filed.kind c.args.self.now c.args.i f e }
+pub returns-clause-said : goal.returns-clause-said
+returns-clause-said g c = let o = c.args.self.now in sym (option_map_id c.item.result) ∙ c.item.ensures ∙ item-read working_at o.workings o.workings_read c.args.i
