@@ -4,7 +4,7 @@ ghost use Rattle.flattening.specs.Flattening.{Freed, PutsFirst};
 ghost use Rattle.native.specs.Answers.{count_of};
 ghost use Rattle.native.specs.Flattenings.{memory, flatten_planar, vertices_planar, parameters_planar};
 
-use crate::answer::{Answer, counted};
+use crate::answer::Answer;
 use flattening::chords::flatten;
 use points::planar::Planar;
 use sources::memory::InMemory;
@@ -28,5 +28,5 @@ pub extern "C" fn planar_flatten(
         points: polygon,
         allowance,
     };
-    counted(flatten(&source, tolerance, working, points, parameters))
+    flatten(&source, tolerance, working, points, parameters).into()
 }

@@ -4,7 +4,7 @@ ghost use Rattle.sources.specs.Meaning.{in_memory, Laid};
 ghost use Rattle.sources.specs.Points.{point_of, pointed, seen};
 ghost use Rattle.native.specs.Answers.{point_answer_of, fraction};
 
-use crate::answer::{Answer, accepted, refused};
+use crate::answer::{Answer, accepted};
 use points::fault::Fault;
 use points::parameter::Parameter;
 use points::planar::Planar;
@@ -20,20 +20,23 @@ pub struct PointAnswer {
     pub allowance: u32,
 }
 
-fn told(r: Result<(Planar, u32), Fault>) -> PointAnswer
-    ensures { result ≡ point_answer_of (seen planar r) }
-{
-    match r {
-        Ok((point, allowance)) => PointAnswer {
-            answer: accepted(0),
-            point,
-            allowance,
-        },
-        Err(f) => PointAnswer {
-            answer: refused(f),
-            point: Planar { x: 0, y: 0 },
-            allowance: 0,
-        },
+// How a call that answers a point and its allowance ended.
+impl From<Result<(Planar, u32), Fault>> for PointAnswer {
+    ghost from_gives = { λ r answer. answer ≡ point_answer_of (seen planar r) };
+
+    fn from(r: Result<(Planar, u32), Fault>) -> PointAnswer {
+        match r {
+            Ok((point, allowance)) => PointAnswer {
+                answer: accepted(0),
+                point,
+                allowance,
+            },
+            Err(f) => PointAnswer {
+                answer: f.into(),
+                point: Planar { x: 0, y: 0 },
+                allowance: 0,
+            },
+        }
     }
 }
 
@@ -53,5 +56,5 @@ pub extern "C" fn planar_point(
         points: polygon,
         allowance,
     };
-    told(point(&source, Parameter { a, k }, buffer))
+    point(&source, Parameter { a, k }, buffer).into()
 }
