@@ -5,55 +5,49 @@
 // Bytes are in hexadecimal, '-' for none; a working is its letter, and after L and R k and a, as L:1:1; U*9 is nine of them.
 #![tactic(auto)]
 
-mod listing;
 mod opened;
 mod steps;
 mod words;
 
-use anyhow::anyhow;
+use anyhow::{Context, anyhow};
 use opened::{list_opened, list_same};
+use pathwriting::point::EncodePoint;
 use points::height::Height;
 use points::planar::Planar;
 use points::sample::Sample;
-use std::io::Read;
 use steps::list_steps;
+use tables::made::Made;
 
-const HEIGHT: Height = Height { z: 7 };
-
-const PLANAR: Planar = Planar { x: 7, y: 7 };
-
-const SAMPLE: Sample = Sample {
-    x: 7,
-    y: 7,
-    press: 7,
-};
-
-fn list_line(rt: &HostRuntime, call: &str, kind: &str, rest: &str) -> anyhow::Result<()> {
-    match (call, kind) {
-        ("open", "height") => list_opened(rt, rest, &mut [HEIGHT; 18]),
-        ("open", "planar") => list_opened(rt, rest, &mut [PLANAR; 18]),
-        ("open", "sample") => list_opened(rt, rest, &mut [SAMPLE; 18]),
-        ("same", "height") => list_same::<Height>(rt, rest),
-        ("same", "planar") => list_same::<Planar>(rt, rest),
-        ("same", "sample") => list_same::<Sample>(rt, rest),
-        ("steps", "height") => list_steps(rt, rest, &mut [HEIGHT; 18]),
-        ("steps", "planar") => list_steps(rt, rest, &mut [PLANAR; 18]),
-        ("steps", "sample") => list_steps(rt, rest, &mut [SAMPLE; 18]),
-        _ => Err(anyhow!("no such call or kind")),
+// What a call answers on points of one kind. The name of a call becomes the call here.
+fn list_call<K: EncodePoint + Made>(
+    rt: &HostRuntime,
+    call: &str,
+    rest: &str,
+) -> anyhow::Result<()> {
+    match call {
+        "open" => list_opened::<K>(rt, rest),
+        "same" => list_same::<K>(rt, rest),
+        "steps" => list_steps::<K>(rt, rest),
+        _ => Err(anyhow!("no such call")),
     }
 }
 
+// The name of a kind becomes a type here.
+fn list_line(rt: &HostRuntime, line: &str) -> anyhow::Result<()> {
+    let (call, more) = line.split_once(' ').context("a line without a call")?;
+    let (kind, rest) = more.split_once(' ').context("a line without a kind")?;
+    match kind {
+        "height" => list_call::<Height>(rt, call, rest),
+        "planar" => list_call::<Planar>(rt, call, rest),
+        "sample" => list_call::<Sample>(rt, call, rest),
+        _ => Err(anyhow!("no such kind")),
+    }
+}
+
+// Each trial reads a table of its own, a line at a time.
 fn main(rt: HostRuntime) -> anyhow::Result<()> {
-    let mut text = String::new(rt.alloc());
-    rt.stdin().read_to_string(&mut text)?;
-    for line in text.as_str().lines() {
-        let Some((call, more)) = line.split_once(' ') else {
-            return Err(anyhow!("a line without a call"));
-        };
-        let Some((kind, rest)) = more.split_once(' ') else {
-            return Err(anyhow!("a line without a kind"));
-        };
-        list_line(&rt, call, kind, rest)?;
+    for line in rt.lines(rt.alloc()) {
+        list_line(&rt, line?.as_str())?;
     }
     Ok(())
 }

@@ -1,131 +1,109 @@
-use crate::listing::{list_points, list_refusal};
 use crate::words::bytes;
-use anyhow::anyhow;
+use anyhow::Context;
 use jobs::file::run_file;
 use pathfiles::opened::Opened;
 use pathfiles::opening::open;
 use pathreading::filed::Filed;
 use pathwriting::point::EncodePoint;
 use pathwriting::whole::write_file;
-use points::fault::Fault;
-use points::kind::Kind;
 use samepath::paths::same_path;
 use sources::source::Source;
+use tables::listing::{Listed, Storeyed};
+use tables::made::Made;
 use workings::working::Working;
 
-// What a call answers that cannot refuse here.
-fn sure<T: Drop>(r: Result<T, Fault>) -> anyhow::Result<T> {
-    match r {
-        Ok(x) => Ok(x),
-        Err(_) => Err(anyhow!("refused")),
-    }
-}
+// A place more than the most points of a file.
+const PLACES: usize = 18;
 
 // Writes an opened file again, onto a buffer with three places more, and tells whether it is the same bytes and the rest is kept.
-fn list_written<K: EncodePoint>(
+fn list_written<K: EncodePoint + Made>(
     rt: &HostRuntime,
     path: &Opened<K>,
     file: &[u8],
-    buffer: &mut [K],
 ) -> anyhow::Result<()> {
-    let points = sure(path.points(buffer))?;
-    let mut list = [Working::Turn; 256];
-    let workings = sure(path.workings(&mut list))?;
-    let (Some(ps), Some(ws)) = (buffer.get(0..points), list.get(0..workings)) else {
-        return Err(anyhow!("a count past its buffer"));
-    };
+    let mut points = vec![in rt.alloc(); K::made(&[7, 7, 7]); PLACES]?;
+    let count = path.points(points.as_mut_slice())?;
+    points.truncate(count);
+    let mut workings = vec![in rt.alloc(); Working::Turn; 256]?;
+    let count = path.workings(workings.as_mut_slice())?;
+    workings.truncate(count);
     let mut again = vec![in rt.alloc(); 0xee_u8; file.len().saturating_add(3)]?;
-    match write_file(again.as_mut_slice(), path.name(), path.allowance(), ps, ws) {
+    match write_file(
+        again.as_mut_slice(),
+        path.name(),
+        path.allowance(),
+        points.as_slice(),
+        workings.as_slice(),
+    ) {
         Ok(n) => {
-            let same = again.as_slice().get(0..n).unwrap_or(&[]) == file;
-            let mut kept = true;
-            for b in again.as_slice().get(n..).unwrap_or(&[]) {
-                kept = kept && *b == 0xee;
-            }
+            let kept = again.iter().skip(n).all(|b| *b == 0xee);
+            again.truncate(n);
+            let same = again.as_slice() == file;
             println!(rt; "written {n} same {same} kept {kept}")?;
         }
-        Err(f) => list_refusal(rt, "written", f)?,
+        Err(f) => println!(rt; "written {}", Storeyed(f))?,
     }
     Ok(())
 }
 
 // What an opened file holds as a source.
-fn list_source<K: EncodePoint>(
-    rt: &HostRuntime,
-    path: &Opened<K>,
-    buffer: &mut [K],
-) -> anyhow::Result<()> {
+fn list_source<K: EncodePoint + Made>(rt: &HostRuntime, path: &Opened<K>) -> anyhow::Result<()> {
+    let mut buffer = vec![in rt.alloc(); K::made(&[7, 7, 7]); PLACES]?;
+    let s = path.draw(buffer.as_mut_slice())?;
+    buffer.truncate(s.reach);
     let name = path.name().len();
     let workings = path.working_count();
-    let s = sure(path.draw(buffer))?;
-    let degree = s.degree;
-    let allowance = s.allowance;
-    let reach = s.reach;
     println!(rt;
-        "opened name {name} workings {workings} degree {degree} allowance {allowance} reach {reach}"
+        "opened name {name} workings {workings} degree {} allowance {} reach {}",
+        s.degree, s.allowance, s.reach
     )?;
-    list_points(rt, "points", buffer.get(0..reach).unwrap_or(&[]))?;
+    println!(rt; "points{}", Listed(buffer.as_slice()))?;
     Ok(())
 }
 
 // What the job of an opened file comes to.
-fn list_job<K: EncodePoint>(
-    rt: &HostRuntime,
-    path: &Opened<K>,
-    buffer: &mut [K],
-) -> anyhow::Result<()> {
-    let job = sure(run_file(path, buffer))?;
+fn list_job<K: EncodePoint + Made>(rt: &HostRuntime, path: &Opened<K>) -> anyhow::Result<()> {
+    let mut buffer = vec![in rt.alloc(); K::made(&[7, 7, 7]); PLACES]?;
+    let job = run_file(path, buffer.as_mut_slice())?;
     let degree = job.strand.degree();
     let allowance = job.strand.allowance();
-    let done = job.done;
-    println!(rt; "job degree {degree} allowance {allowance} done {done}")?;
-    list_points(
-        rt,
-        "points",
-        buffer.get(0..degree.saturating_add(1)).unwrap_or(&[]),
+    println!(rt;
+        "job degree {degree} allowance {allowance} done {}",
+        job.done
     )?;
+    buffer.truncate(degree.saturating_add(1));
+    println!(rt; "points{}", Listed(buffer.as_slice()))?;
     if let Some(f) = job.fault {
-        list_refusal(rt, "job", f)?;
+        println!(rt; "job {}", Storeyed(f))?;
     }
     Ok(())
 }
 
 // Opens a file and lists what it holds, whether it is written again as it was, and what its job comes to.
-pub fn list_opened<K: EncodePoint>(
-    rt: &HostRuntime,
-    rest: &str,
-    buffer: &mut [K],
-) -> anyhow::Result<()> {
-    let Some((length, word)) = rest.split_once(' ') else {
-        return Err(anyhow!("no file"));
-    };
+pub fn list_opened<K: EncodePoint + Made>(rt: &HostRuntime, rest: &str) -> anyhow::Result<()> {
+    let (length, word) = rest.split_once(' ').context("no file")?;
     let mut file = bytes(rt.alloc(), word)?;
-    for _ in file.len()..length.parse::<usize>()? {
-        file.push(0)?;
-    }
+    let length = file.len().max(length.parse()?);
+    file.resize(length, 0)?;
     let path: Opened<K> = match open(file.as_slice()) {
         Ok(path) => path,
         Err(f) => {
-            list_refusal(rt, "open", f)?;
+            println!(rt; "open {}", Storeyed(f))?;
             return Ok(());
         }
     };
-    list_source(rt, &path, buffer)?;
-    list_written(rt, &path, file.as_slice(), buffer)?;
-    list_job(rt, &path, buffer)
+    list_source(rt, &path)?;
+    list_written(rt, &path, file.as_slice())?;
+    list_job(rt, &path)
 }
 
 // Opens two files as one kind and tells whether they are the same path, asked either way round.
 pub fn list_same<K: Filed>(rt: &HostRuntime, rest: &str) -> anyhow::Result<()> {
-    let Some((first, second)) = rest.split_once(' ') else {
-        return Err(anyhow!("not two files"));
-    };
+    let (first, second) = rest.split_once(' ').context("not two files")?;
     let first = bytes(rt.alloc(), first)?;
     let second = bytes(rt.alloc(), second)?;
-    let a: Opened<K> = sure(open(first.as_slice()))?;
-    let b: Opened<K> = sure(open(second.as_slice()))?;
-    let there = same_path(&a, &b);
-    let back = same_path(&b, &a);
-    println!(rt; "same {there} {back}")?;
+    let a: Opened<K> = open(first.as_slice())?;
+    let b: Opened<K> = open(second.as_slice())?;
+    println!(rt; "same {} {}", same_path(&a, &b), same_path(&b, &a))?;
     Ok(())
 }

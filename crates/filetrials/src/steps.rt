@@ -1,12 +1,25 @@
-use crate::listing::{list_bytes, list_refusal};
 use crate::words::{bytes, push_workings};
-use anyhow::anyhow;
+use anyhow::{Context, anyhow};
 use pathwriting::point::EncodePoint;
 use pathwriting::states::NewFile;
-use tables::made::{Made, fill};
+use points::fault::Fault;
+use tables::listing::Storeyed;
+use tables::made::{Made, points};
 use workings::working::Working;
 
-// Writes a file in its three steps and lists the buffer after each; a refused step ends it.
+// The buffer after a step.
+fn list_buffer(rt: &HostRuntime, label: &str, buffer: &[u8]) -> anyhow::Result<()> {
+    println!(rt; "{label} {}", hex::encode(rt.alloc(), buffer)?)?;
+    Ok(())
+}
+
+// A refused step, and the buffer after it.
+fn list_refused(rt: &HostRuntime, step: &str, f: Fault, buffer: &[u8]) -> anyhow::Result<()> {
+    println!(rt; "{step} {}", Storeyed(f))?;
+    list_buffer(rt, "buffer", buffer)
+}
+
+// Writes a file in its three steps and lists the buffer after each; a refused step ends it. It takes what the steps take, one by one.
 fn list_writing<K: EncodePoint>(
     rt: &HostRuntime,
     buffer: &mut [u8],
@@ -17,65 +30,45 @@ fn list_writing<K: EncodePoint>(
 ) -> anyhow::Result<()> {
     let begun = match NewFile::<K>::new().begin(buffer, name, allowance) {
         Ok(begun) => begun,
-        Err(back) => {
-            let (_, f) = back;
-            list_refusal(rt, "begin", f)?;
-            list_bytes(rt, "buffer", buffer)?;
-            return Ok(());
-        }
+        Err((_, f)) => return list_refused(rt, "begin", f, buffer),
     };
-    list_bytes(rt, "begun", buffer)?;
+    list_buffer(rt, "begun", buffer)?;
     let pointed = match begun.points(buffer, points) {
         Ok(pointed) => pointed,
-        Err(back) => {
-            let (_, f) = back;
-            list_refusal(rt, "points", f)?;
-            list_bytes(rt, "buffer", buffer)?;
-            return Ok(());
-        }
+        Err((_, f)) => return list_refused(rt, "points", f, buffer),
     };
-    list_bytes(rt, "pointed", buffer)?;
+    list_buffer(rt, "pointed", buffer)?;
     match pointed.close(buffer, workings) {
-        Ok(n) => println!(rt; "closed {n}")?,
-        Err(back) => {
-            let (_, f) = back;
-            list_refusal(rt, "close", f)?;
+        Ok(n) => {
+            println!(rt; "closed {n}")?;
+            list_buffer(rt, "buffer", buffer)
         }
+        Err((_, f)) => list_refused(rt, "close", f, buffer),
     }
-    list_bytes(rt, "buffer", buffer)?;
-    Ok(())
 }
 
-pub fn list_steps<K: EncodePoint + Made>(
-    rt: &HostRuntime,
-    rest: &str,
-    buffer: &mut [K],
-) -> anyhow::Result<()> {
-    let Some((before, after)) = rest.split_once('|') else {
-        return Err(anyhow!("no workings"));
-    };
+pub fn list_steps<K: EncodePoint + Made>(rt: &HostRuntime, rest: &str) -> anyhow::Result<()> {
+    let (before, after) = rest.split_once('|').context("no workings")?;
     let mut words = before.split_whitespace();
     let (Some(places), Some(allowance), Some(name)) = (words.next(), words.next(), words.next())
     else {
         return Err(anyhow!("too few words"));
     };
-    let mut values = Vec::new(rt.alloc());
-    for w in words {
-        values.push(w.parse::<i32>()?)?;
-    }
+    let values: Vec<i32> = words
+        .map(|w| -> anyhow::Result<i32> { Ok(w.parse::<i32>()?) })
+        .try_collect(rt.alloc())?;
     let mut workings = Vec::new(rt.alloc());
     for w in after.split_whitespace() {
         push_workings(&mut workings, w)?;
     }
-    let name = bytes(rt.alloc(), name)?;
-    let count = fill(buffer, values.as_slice());
+    let points: Vec<K> = points(rt.alloc(), values.as_slice())?;
     let mut file = vec![in rt.alloc(); 0xee_u8; places.parse::<usize>()?]?;
     list_writing(
         rt,
         file.as_mut_slice(),
-        name.as_slice(),
+        bytes(rt.alloc(), name)?.as_slice(),
         allowance.parse::<u16>()?,
-        buffer.get(0..count).unwrap_or(&[]),
+        points.as_slice(),
         workings.as_slice(),
     )
 }

@@ -1,34 +1,24 @@
-use anyhow::anyhow;
+use anyhow::{Context, anyhow};
 use points::parameter::Parameter;
 use std::alloc::Global;
 use workings::working::Working;
 
 // Bytes from hexadecimal digits, none from '-'.
 pub fn bytes(heap: Global, word: &str) -> anyhow::Result<Vec<u8>> {
-    let mut made = Vec::new(heap);
     if word == "-" {
-        return Ok(made);
+        return Ok(Vec::new(heap));
     }
-    for pair in word.as_bytes().chunks(2) {
-        let Ok(digits) = std::str::from_utf8(pair) else {
-            return Err(anyhow!("no digits"));
-        };
-        made.push(u8::from_str_radix(digits, 16)?)?;
-    }
-    Ok(made)
+    Ok(hex::decode(heap, word)?)
 }
 
 fn parameter(k: Option<&str>, a: Option<&str>) -> anyhow::Result<Parameter> {
-    let (Some(k), Some(a)) = (k, a) else {
-        return Err(anyhow!("a working without its parameter"));
-    };
     Ok(Parameter {
-        a: a.parse::<u16>()?,
-        k: k.parse::<u8>()?,
+        k: k.context("a working without its parameter")?.parse()?,
+        a: a.context("a working without its parameter")?.parse()?,
     })
 }
 
-// A working by its letter, and after L and R k and a.
+// A working by its letter, and after L and R k and a. A word becomes a working here.
 fn working(word: &str) -> anyhow::Result<Working> {
     let mut parts = word.split(':');
     match parts.next() {
@@ -42,14 +32,9 @@ fn working(word: &str) -> anyhow::Result<Working> {
 
 // Puts a working onto the list, as often as the word says.
 pub fn push_workings(list: &mut Vec<Working>, word: &str) -> anyhow::Result<()> {
-    match word.split_once('*') {
-        None => list.push(working(word)?)?,
-        Some((one, times)) => {
-            let w = working(one)?;
-            for _ in 0..times.parse::<u16>()? {
-                list.push(w)?;
-            }
-        }
-    }
+    let (one, times) = word.split_once('*').unwrap_or((word, "1"));
+    let w = working(one)?;
+    let more = usize::from(times.parse::<u16>()?);
+    list.resize(list.len().saturating_add(more), w)?;
     Ok(())
 }

@@ -5,72 +5,36 @@
 mod listing;
 
 use anyhow::anyhow;
-use listing::{MOST, WORKING, list_chords};
+use listing::list_chords;
 use points::height::Height;
 use points::planar::Planar;
 use points::sample::Sample;
-use std::io::Read;
 
+// A line has numbers of its own form in each trial. The name of a kind becomes a type here.
 fn list_line(rt: &HostRuntime, line: &str) -> anyhow::Result<()> {
     let mut words = line.split_whitespace();
     let Some(kind) = words.next() else {
         return Ok(());
     };
-    let mut numbers = Vec::new(rt.alloc());
-    for w in words {
-        numbers.push(w.parse::<i32>()?)?;
-    }
+    let numbers: Vec<i32> = words
+        .map(|w| -> anyhow::Result<i32> { Ok(w.parse::<i32>()?) })
+        .try_collect(rt.alloc())?;
     let [tolerance, values @ ..] = numbers.as_slice() else {
         return Err(anyhow!("a line of too few words"));
     };
     let q = u16::try_from(*tolerance)?;
     println!(rt; "{line}")?;
     match kind {
-        "height" => {
-            let origin = Height { z: 0 };
-            list_chords(
-                rt,
-                values,
-                q,
-                &mut [origin; 18],
-                &mut [origin; WORKING],
-                &mut [origin; MOST],
-            )
-        }
-        "planar" => {
-            let origin = Planar { x: 0, y: 0 };
-            list_chords(
-                rt,
-                values,
-                q,
-                &mut [origin; 18],
-                &mut [origin; WORKING],
-                &mut [origin; MOST],
-            )
-        }
-        _ => {
-            let origin = Sample {
-                x: 0,
-                y: 0,
-                press: 0,
-            };
-            list_chords(
-                rt,
-                values,
-                q,
-                &mut [origin; 18],
-                &mut [origin; WORKING],
-                &mut [origin; MOST],
-            )
-        }
+        "height" => list_chords::<Height>(rt, values, q),
+        "planar" => list_chords::<Planar>(rt, values, q),
+        _ => list_chords::<Sample>(rt, values, q),
     }
 }
 
+// Each trial reads a table of its own, a line at a time.
 fn main(rt: HostRuntime) -> anyhow::Result<()> {
-    let mut text = String::new(rt.alloc());
-    rt.stdin().read_to_string(&mut text)?;
-    for line in text.as_str().lines() {
-        list_line(&rt, line)?;
+    for line in rt.lines(rt.alloc()) {
+        list_line(&rt, line?.as_str())?;
     }
     Ok(())
 }

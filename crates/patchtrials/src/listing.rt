@@ -1,166 +1,115 @@
 use crate::tried::Tried;
-use anyhow::anyhow;
 use patches::patch::Patch;
-use points::fault::Fault;
 use points::kind::{Kind, same};
 use points::parameter::Parameter;
 use sources::source::Source;
 use sources::worked::Worked;
+use std::io;
 use surfaces::isoparametric::{isoparametric_flatten, isoparametric_point};
-use tables::made::{Made, fill};
+use tables::listing::{Axes, Storeyed};
+use tables::made::{Made, points};
 use workings::working::Working;
 
-// The most points of a patch, and one more for a patch of too many.
-pub const PATCH: usize = 290;
-
-// The most places of a buffer.
-pub const PLACES: usize = 40;
-
 // The places that flattening needs for any cut.
-pub const WORKING: usize = 221;
+const WORKING: usize = 221;
 
 // The most vertices that a flattening can have.
-pub const MOST: usize = 4097;
+const MOST: usize = 4097;
 
-fn list_refusal(rt: &HostRuntime, f: Fault) -> anyhow::Result<()> {
-    let number = f.refusal.number();
-    let storey = f.storey;
-    let place = f.place;
-    println!(rt; "refused {number} storey {storey} place {place}")?;
-    Ok(())
-}
-
-fn list_point<K: Kind>(rt: &HostRuntime, p: &K) -> anyhow::Result<()> {
-    for a in 0..K::axes() {
-        let v = p.axis(a);
-        print!(rt; " {v}")?;
-    }
-    println!(rt; "")?;
-    Ok(())
-}
-
-// How many of the places hold the mark.
+// How many of the places from one on hold the mark.
 fn marked<K: Kind>(places: &[K], from: usize, mark: &K) -> usize {
-    let mut count = 0usize;
-    for p in places.iter().skip(from) {
-        if same(p, mark) {
-            count = count.saturating_add(1);
-        }
+    places.iter().skip(from).filter(|p| same(*p, mark)).count()
+}
+
+// The points of a polygon, a line each.
+fn list_polygon<K: Kind>(rt: &impl Print, buffer: &[K], size: usize) -> io::Result<()> {
+    for p in buffer.iter().take(size) {
+        println!(rt; "{}", Axes(p))?;
     }
-    count
+    Ok(())
 }
 
 // What a source tells, what it draws on a buffer full of marks, and how many places past the reach, or of all when it refuses, still hold the mark.
 fn list_source<S: Source>(
     rt: &HostRuntime,
     source: &S,
-    buffer: &mut [S::K],
+    places: usize,
     mark: S::K,
-) -> anyhow::Result<()> {
-    for b in buffer.iter_mut() {
-        *b = mark;
-    }
+) -> io::Result<()> {
+    let mut buffer = vec![in rt.alloc(); mark; places]?;
     match source.survey() {
         Ok(s) => {
-            let degree = s.degree;
-            let allowance = s.allowance;
-            let reach = s.reach;
-            println!(rt; "degree {degree} allowance {allowance} reach {reach}")?;
+            println!(rt;
+                "degree {} allowance {} reach {}",
+                s.degree, s.allowance, s.reach
+            )?
         }
-        Err(f) => list_refusal(rt, f)?,
+        Err(f) => println!(rt; "{}", Storeyed(f))?,
     }
-    match source.draw(buffer) {
+    let kept = match source.draw(buffer.as_mut_slice()) {
         Ok(s) => {
-            for p in buffer.iter().take(s.degree.saturating_add(1)) {
-                list_point(rt, p)?;
-            }
-            let kept = marked(buffer, s.reach, &mark);
-            println!(rt; "kept {kept}")?;
+            list_polygon(rt, buffer.as_slice(), s.degree.saturating_add(1))?;
+            marked(buffer.as_slice(), s.reach, &mark)
         }
         Err(f) => {
-            list_refusal(rt, f)?;
-            let kept = marked(buffer, 0, &mark);
-            println!(rt; "kept {kept}")?;
+            println!(rt; "{}", Storeyed(f))?;
+            marked(buffer.as_slice(), 0, &mark)
         }
-    }
-    Ok(())
+    };
+    println!(rt; "kept {kept}")
 }
 
 // The point at t of the isoparametric curve at s, with its allowance.
-fn list_isoparametric_point<K: Kind>(
+fn list_isoparametric_point<K: Made>(
     rt: &HostRuntime,
     patch: &Patch<K>,
     tried: Tried,
-    buffer: &mut [K],
-) -> anyhow::Result<()> {
-    match isoparametric_point(patch, tried.s, tried.t, buffer) {
-        Ok(answer) => {
-            let (p, allowance) = answer;
-            print!(rt; "point allowance {allowance}:")?;
-            list_point(rt, &p)
-        }
-        Err(f) => list_refusal(rt, f),
+) -> io::Result<()> {
+    let mut buffer = vec![in rt.alloc(); K::made(&[]); tried.places]?;
+    match isoparametric_point(patch, tried.s, tried.t, buffer.as_mut_slice()) {
+        Ok((p, allowance)) => println!(rt; "point allowance {allowance}:{}", Axes(&p)),
+        Err(f) => println!(rt; "{}", Storeyed(f)),
     }
 }
 
-// The vertices of the isoparametric curve at s, each after its parameter times 4,096.
-fn list_chords<K: Kind>(
-    rt: &HostRuntime,
-    patch: &Patch<K>,
-    tried: Tried,
-    working: &mut [K],
-    vertices: &mut [K],
-) -> anyhow::Result<()> {
+// The vertices of the isoparametric curve at s, each after its parameter times 4,096. A trial of another call lists its own: one function for both would
+// take the call, what stands between parameter and point, and how a refusal is printed.
+fn list_chords<K: Made>(rt: &HostRuntime, patch: &Patch<K>, tried: Tried) -> io::Result<()> {
+    let mut working = vec![in rt.alloc(); K::made(&[]); WORKING]?;
+    let mut vertices = vec![in rt.alloc(); K::made(&[]); MOST]?;
     let mut parameters = vec![in rt.alloc(); 0u16; MOST]?;
     match isoparametric_flatten(
         patch,
         tried.s,
         tried.tolerance,
-        working,
-        vertices,
+        working.as_mut_slice(),
+        vertices.as_mut_slice(),
         parameters.as_mut_slice(),
     ) {
         Ok(count) => {
             println!(rt; "{count} vertices")?;
-            for (p, t) in vertices
-                .iter()
-                .take(count)
-                .zip(parameters.as_slice().iter())
-            {
-                print!(rt; "{t}:")?;
-                list_point(rt, p)?;
+            vertices.truncate(count);
+            for (p, t) in vertices.iter().zip(parameters.iter()) {
+                println!(rt; "{t}:{}", Axes(p))?;
             }
             Ok(())
         }
-        Err(f) => list_refusal(rt, f),
+        Err(f) => println!(rt; "{}", Storeyed(f)),
     }
 }
 
 // All that a line asks of the patch whose points the values are.
-pub fn list_patch<K: Made>(
-    rt: &HostRuntime,
-    tried: Tried,
-    values: &[i32],
-    points: &mut [K],
-    buffer: &mut [K],
-    working: &mut [K],
-    vertices: &mut [K],
-) -> anyhow::Result<()> {
-    let count = fill(points, values);
-    let end = tried.places;
-    if count > points.len() || end > buffer.len() {
-        return Err(anyhow!("more points or places than the program has"));
-    }
+pub fn list_patch<K: Made>(rt: &HostRuntime, tried: Tried, values: &[i32]) -> io::Result<()> {
+    let points: Vec<K> = points(rt.alloc(), values)?;
     let patch = Patch {
-        points: &points[0..count],
+        points: points.as_slice(),
         m: tried.m,
         n: tried.n,
         allowance: tried.allowance,
     };
-    let mark = K::made([77, 77, 77]);
+    let mark = K::made(&[77, 77, 77]);
+    list_source(rt, &patch.cut(tried.s), tried.places, mark)?;
     let half = Parameter { a: 1, k: 1 };
-    let places = &mut buffer[0..end];
-    list_source(rt, &patch.cut(tried.s), places, mark)?;
     let pile = Worked {
         below: Worked {
             below: patch.cut(tried.s),
@@ -168,7 +117,7 @@ pub fn list_patch<K: Made>(
         },
         working: Working::Raise,
     };
-    list_source(rt, &pile, places, mark)?;
-    list_isoparametric_point(rt, &patch, tried, places)?;
-    list_chords(rt, &patch, tried, working, vertices)
+    list_source(rt, &pile, tried.places, mark)?;
+    list_isoparametric_point(rt, &patch, tried)?;
+    list_chords(rt, &patch, tried)
 }

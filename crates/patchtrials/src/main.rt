@@ -5,73 +5,35 @@
 mod listing;
 mod tried;
 
-use listing::{MOST, PATCH, PLACES, WORKING, list_patch};
+use listing::list_patch;
 use points::height::Height;
 use points::planar::Planar;
 use points::sample::Sample;
-use std::io::Read;
 use tried::tried_of;
 
+// A line has numbers of its own form in each trial. The name of a kind becomes a type here.
 fn list_line(rt: &HostRuntime, line: &str) -> anyhow::Result<()> {
     let mut words = line.split_whitespace();
     let Some(kind) = words.next() else {
         return Ok(());
     };
-    let mut numbers = Vec::new(rt.alloc());
-    for w in words {
-        numbers.push(w.parse::<i32>()?)?;
-    }
+    let numbers: Vec<i32> = words
+        .map(|w| -> anyhow::Result<i32> { Ok(w.parse::<i32>()?) })
+        .try_collect(rt.alloc())?;
     let (tried, values) = tried_of(numbers.as_slice())?;
     println!(rt; "{line}")?;
     match kind {
-        "height" => {
-            let origin = Height { z: 77 };
-            list_patch(
-                rt,
-                tried,
-                values,
-                &mut [origin; PATCH],
-                &mut [origin; PLACES],
-                &mut [origin; WORKING],
-                &mut [origin; MOST],
-            )
-        }
-        "planar" => {
-            let origin = Planar { x: 77, y: 77 };
-            list_patch(
-                rt,
-                tried,
-                values,
-                &mut [origin; PATCH],
-                &mut [origin; PLACES],
-                &mut [origin; WORKING],
-                &mut [origin; MOST],
-            )
-        }
-        _ => {
-            let origin = Sample {
-                x: 77,
-                y: 77,
-                press: 77,
-            };
-            list_patch(
-                rt,
-                tried,
-                values,
-                &mut [origin; PATCH],
-                &mut [origin; PLACES],
-                &mut [origin; WORKING],
-                &mut [origin; MOST],
-            )
-        }
+        "height" => list_patch::<Height>(rt, tried, values)?,
+        "planar" => list_patch::<Planar>(rt, tried, values)?,
+        _ => list_patch::<Sample>(rt, tried, values)?,
     }
+    Ok(())
 }
 
+// Each trial reads a table of its own, a line at a time.
 fn main(rt: HostRuntime) -> anyhow::Result<()> {
-    let mut text = String::new(rt.alloc());
-    rt.stdin().read_to_string(&mut text)?;
-    for line in text.as_str().lines() {
-        list_line(&rt, line)?;
+    for line in rt.lines(rt.alloc()) {
+        list_line(&rt, line?.as_str())?;
     }
     Ok(())
 }

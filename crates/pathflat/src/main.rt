@@ -7,9 +7,10 @@ use pathfiles::opened::Opened;
 use pathfiles::opening::open;
 use points::fault::Fault;
 use points::planar::Planar;
-use std::env;
+use std::alloc::{AllocError, Global};
 use std::io::Read;
 use std::process::ExitCode;
+use std::{env, io};
 use strokes::{Stroke, strokes};
 
 // The longest file, and one byte more, by which a longer input is told without being read to its end.
@@ -17,50 +18,65 @@ const LIMIT: u64 = 65536;
 
 const ORIGIN: Planar = Planar { x: 0, y: 0 };
 
+// The places that flattening works on for the points of a file, always as many, so they are an array.
+const WORKING: usize = 221;
+
 // The most vertices that a flattening can have.
 const MOST: usize = 4097;
 
 // The first argument, if it is a number of 16 bits.
-fn tolerance(rt: &HostRuntime) -> anyhow::Result<Option<u16>> {
-    let mut args = env::args(rt)?;
-    let _ = args.next();
-    let Some(word) = args.next() else {
-        return Ok(None);
-    };
-    Ok(word.as_str().parse::<u16>().ok())
+fn tolerance(rt: &HostRuntime) -> io::Result<Option<u16>> {
+    Ok(
+        env::args(rt)?
+            .nth(1)
+            .and_then(|word| word.as_str().parse().ok()),
+    )
 }
 
-fn list_vertices(
-    rt: &HostRuntime,
-    path: &Opened<Planar>,
-    tolerance: u16,
-) -> anyhow::Result<Option<Fault>> {
-    let mut working = [ORIGIN; 221];
-    let mut points = vec![in rt.alloc(); ORIGIN; MOST]?;
-    let mut parameters = vec![in rt.alloc(); 0u16; MOST]?;
-    let flat = flatten(
-        path,
-        tolerance,
-        &mut working,
-        points.as_mut_slice(),
-        parameters.as_mut_slice(),
-    );
-    let n = match flat {
-        Ok(n) => n,
-        Err(f) => return Ok(Some(f)),
-    };
-    let mut lines = vec![in rt.alloc(); Stroke::Start { x: 0.0, y: 0.0 }; MOST]?;
-    let vertices = points.as_slice().get(0..n).unwrap_or(&[]);
-    if let Err(f) = strokes(vertices, lines.as_mut_slice()) {
-        return Ok(Some(f));
+// The strokes to the vertices of a path, and the vertices' parameters times 4,096. Flattening and strokes take a buffer each, so they are three vectors.
+#[derive(Drop)]
+struct Drawn {
+    strokes: Vec<Stroke>,
+    parameters: Vec<u16>,
+    points: Vec<Planar>,
+}
+
+impl Drawn {
+    // Room for the most vertices.
+    fn new(alloc: Global) -> Result<Drawn, AllocError> {
+        Ok(Drawn {
+            strokes: vec![in alloc; Stroke::Start { x: 0.0, y: 0.0 }; MOST]?,
+            parameters: vec![in alloc; 0; MOST]?,
+            points: vec![in alloc; ORIGIN; MOST]?,
+        })
     }
-    for (t, s) in parameters.iter().take(n).zip(lines.iter()) {
+
+    // Flattens the points of a file; as many strokes and parameters are left as there are vertices.
+    fn draw(&mut self, file: &[u8], tolerance: u16) -> Result<(), Fault> {
+        let path: Opened<Planar> = open(file)?;
+        let count = flatten(
+            &path,
+            tolerance,
+            &mut [ORIGIN; WORKING],
+            self.points.as_mut_slice(),
+            self.parameters.as_mut_slice(),
+        )?;
+        self.points.truncate(count);
+        self.parameters.truncate(count);
+        let count = strokes(self.points.as_slice(), self.strokes.as_mut_slice())?;
+        self.strokes.truncate(count);
+        Ok(())
+    }
+}
+
+fn list_strokes(rt: &impl Print, drawn: &Drawn) -> io::Result<()> {
+    for (t, s) in drawn.parameters.iter().zip(drawn.strokes.iter()) {
         match s {
             Stroke::Start { x, y } => println!(rt; "{t} start {x} {y}")?,
             Stroke::Line { x, y } => println!(rt; "{t} line {x} {y}")?,
         }
     }
-    Ok(None)
+    Ok(())
 }
 
 fn main(rt: HostRuntime) -> anyhow::Result<ExitCode> {
@@ -69,16 +85,14 @@ fn main(rt: HostRuntime) -> anyhow::Result<ExitCode> {
     };
     let mut file = Vec::new(rt.alloc());
     rt.stdin().take(LIMIT).read_to_end(&mut file)?;
-    let refused = match open::<Planar>(file.as_slice()) {
-        Ok(path) => list_vertices(&rt, &path, tolerance)?,
-        Err(f) => Some(f),
-    };
-    match refused {
-        None => Ok(ExitCode::SUCCESS),
-        Some(f) => {
-            let number = f.refusal.number();
-            let place = f.place;
-            println!(rt; "refused {number} at {place}")?;
+    let mut drawn = Drawn::new(rt.alloc())?;
+    match drawn.draw(file.as_slice(), tolerance) {
+        Ok(()) => {
+            list_strokes(&rt, &drawn)?;
+            Ok(ExitCode::SUCCESS)
+        }
+        Err(f) => {
+            println!(rt; "{f}")?;
             Ok(ExitCode::FAILURE)
         }
     }

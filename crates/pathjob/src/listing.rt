@@ -1,55 +1,41 @@
 use jobs::job::Job;
-use points::fault::Fault;
+use pathfiles::opened::Opened;
 use points::planar::Planar;
-use std::io;
+use std::{fmt, io};
 
-// The name, with bytes outside printable ASCII escaped, so that a file cannot drive a terminal.
-fn list_name(rt: &HostRuntime, name: &[u8]) -> io::Result<()> {
-    print!(rt; "path ")?;
-    for b in name {
-        match *b {
-            b'\\' => print!(rt; "\\\\")?,
-            b' '..=b'~' => {
-                let c = *b as char;
-                print!(rt; "{c}")?
+// A name as it is printed: bytes outside printable ASCII are escaped, so that no control code reaches a terminal.
+#[derive(Clone, Copy)]
+struct Printable<'a>(&'a [u8]);
+
+impl fmt::Display for Printable<'_> {
+    fn fmt<W: fmt::Write>(&self, f: &mut fmt::Formatter<W>) -> fmt::Result {
+        for b in self.0 {
+            match *b {
+                b'\\' => f.write_str("\\\\")?,
+                b' '..=b'~' => f.write_char(char::from(*b))?,
+                b => write!(f, "\\x{b:02x}")?,
             }
-            b => print!(rt; "\\x{b:02x}")?,
         }
+        Ok(())
     }
-    println!(rt; "")
 }
 
-// A job: the name, the numbers of its strand, each point, and how many of all workings were done.
+// A job of a file: the name, the numbers of its strand, each point, and how many of all workings were done.
 pub fn list_job(
-    rt: &HostRuntime,
-    name: &[u8],
+    rt: &impl Print,
+    path: &Opened<Planar>,
     job: &Job,
     buffer: &[Planar],
-    all: usize,
 ) -> io::Result<()> {
-    list_name(rt, name)?;
+    println!(rt; "path {}", Printable(path.name()))?;
     let degree = job.strand.degree();
-    let allowance = job.strand.allowance();
-    println!(rt; "degree {degree} allowance {allowance}")?;
-    for (i, p) in buffer.iter().enumerate() {
-        if i <= degree {
-            let x = p.x;
-            let y = p.y;
-            println!(rt; "{i} {x} {y}")?;
-        }
+    println!(rt; "degree {degree} allowance {}", job.strand.allowance())?;
+    for (i, p) in buffer.iter().enumerate().take(degree.saturating_add(1)) {
+        println!(rt; "{i} {} {}", p.x, p.y)?;
     }
-    let done = job.done;
-    println!(rt; "done {done} of {all}")?;
+    println!(rt; "done {} of {}", job.done, path.working_count())?;
     if let Some(f) = job.fault {
-        let number = f.refusal.number();
-        println!(rt; "refused {number}")?;
+        println!(rt; "refused {}", u8::from(f.refusal))?;
     }
     Ok(())
-}
-
-// A file that does not open.
-pub fn list_refusal(rt: &HostRuntime, f: Fault) -> io::Result<()> {
-    let number = f.refusal.number();
-    let place = f.place;
-    println!(rt; "refused {number} at {place}")
 }

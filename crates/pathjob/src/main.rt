@@ -4,7 +4,8 @@
 mod listing;
 
 use jobs::file::run_file;
-use listing::{list_job, list_refusal};
+use jobs::job::Job;
+use listing::list_job;
 use pathfiles::opened::Opened;
 use pathfiles::opening::open;
 use points::fault::Fault;
@@ -17,31 +18,30 @@ const LIMIT: u64 = 65536;
 
 const ORIGIN: Planar = Planar { x: 0, y: 0 };
 
-// Works an opened file and prints it; true where all its workings were done.
-fn work(rt: &HostRuntime, path: &Opened<Planar>) -> anyhow::Result<Result<bool, Fault>> {
-    let mut buffer = [ORIGIN; 17];
-    match run_file(path, &mut buffer) {
-        Ok(job) => {
-            let all = usize::from(path.working_count());
-            list_job(rt, path.name(), &job, &buffer, all)?;
-            Ok(Ok(job.fault.is_none()))
-        }
-        Err(f) => Ok(Err(f)),
-    }
+// The most points of a polygon. So few stay an array, of which the polygon is the first part.
+const MOST: usize = 17;
+
+// Opens a file and works it on the buffer.
+fn work<'a>(file: &'a [u8], buffer: &mut [Planar]) -> Result<(Opened<'a, Planar>, Job), Fault> {
+    let path = open(file)?;
+    let job = run_file(&path, buffer)?;
+    Ok((path, job))
 }
 
 fn main(rt: HostRuntime) -> anyhow::Result<ExitCode> {
     let mut file = Vec::new(rt.alloc());
     rt.stdin().take(LIMIT).read_to_end(&mut file)?;
-    let outcome = match open::<Planar>(file.as_slice()) {
-        Ok(path) => work(&rt, &path)?,
-        Err(f) => Err(f),
-    };
-    match outcome {
-        Ok(true) => Ok(ExitCode::SUCCESS),
-        Ok(false) => Ok(ExitCode::FAILURE),
+    let mut buffer = [ORIGIN; MOST];
+    match work(file.as_slice(), &mut buffer) {
+        Ok((path, job)) => {
+            list_job(&rt, &path, &job, &buffer)?;
+            match job.fault {
+                None => Ok(ExitCode::SUCCESS),
+                Some(_) => Ok(ExitCode::FAILURE),
+            }
+        }
         Err(f) => {
-            list_refusal(&rt, f)?;
+            println!(rt; "{f}")?;
             Ok(ExitCode::FAILURE)
         }
     }

@@ -5,7 +5,7 @@ use points::height::Height;
 use points::planar::Planar;
 use points::sample::Sample;
 
-// A kind of point that a description can give.
+// A kind of point that a description can give. Each kind has its own numbers, and its own words where they are wrong.
 pub trait Described: EncodePoint {
     // The point of these numbers, one for each axis.
     fn from_numbers(numbers: &[i32]) -> Result<Self, Trouble>;
@@ -31,12 +31,12 @@ impl Described for Planar {
 
 impl Described for Sample {
     fn from_numbers(numbers: &[i32]) -> Result<Sample, Trouble> {
-        match numbers {
-            [x, y, press] => match u16::try_from(*press) {
-                Ok(p) => Ok(Sample::new(*x, *y, p)?),
-                Err(_) => Err(Trouble::Text("a press is not negative, and at most 4095")),
-            },
-            _ => Err(Trouble::Text("a sample has three numbers, x, y and press")),
-        }
+        let [x, y, press] = numbers else {
+            return Err(Trouble::Text("a sample has three numbers, x, y and press"));
+        };
+        let Ok(press) = u16::try_from(*press) else {
+            return Err(Trouble::Text("a press is not negative, and at most 4095"));
+        };
+        Ok(Sample::new(*x, *y, press)?)
     }
 }

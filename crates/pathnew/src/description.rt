@@ -2,34 +2,64 @@
 use crate::described::Described;
 use crate::trouble::Trouble;
 use crate::words::{axis_value, name, parameter, small_number};
-use std::alloc::Global;
+use pathwriting::whole::write_file;
+use std::alloc::{AllocError, Global};
 use workings::working::Working;
+
+// A line that says something: its number, its first word, and the rest.
+#[derive(Clone, Copy)]
+pub struct Line<'a> {
+    pub number: usize,
+    pub word: &'a str,
+    pub rest: &'a str,
+}
+
+impl<'a> Line<'a> {
+    // None for an empty line or a comment.
+    fn read(number: usize, text: &'a str) -> Option<Line<'a>> {
+        let text = text.trim();
+        if text.is_empty() || text.starts_with('#') {
+            return None;
+        }
+        let (word, rest) = text.split_once(' ').unwrap_or((text, ""));
+        Some(Line {
+            number,
+            word,
+            rest: rest.trim(),
+        })
+    }
+}
+
+// The lines of a text that say something.
+pub fn lines(heap: Global, text: &str) -> Result<Vec<Line<'_>>, AllocError> {
+    text.lines()
+        .enumerate()
+        .filter_map(|(i, line)| Line::read(i.saturating_add(1), line))
+        .collect(heap)
+}
 
 // What a description says, apart from the kind of its points.
 #[derive(Drop)]
 pub struct Description<K> {
-    pub name: Option<Vec<u8>>,
-    pub allowance: Option<u16>,
-    pub points: Vec<K>,
-    pub workings: Vec<Working>,
+    name: Option<Vec<u8>>,
+    allowance: Option<u16>,
+    points: Vec<K>,
+    workings: Vec<Working>,
 }
 
 fn point<K: Described>(heap: Global, rest: &str) -> Result<K, Trouble> {
-    let mut numbers = Vec::new(heap);
-    for word in rest.split_whitespace() {
-        numbers.push(axis_value(word)?)?;
-    }
+    let numbers: Vec<i32> = rest.split_whitespace().map(axis_value).try_collect(heap)?;
     K::from_numbers(numbers.as_slice())
 }
 
-// The working that a word and what follows it name, if they name one.
-fn working(word: &str, rest: &str) -> Result<Option<Working>, Trouble> {
-    match word {
-        "left" => Ok(Some(Working::Left(parameter(rest)?))),
-        "right" => Ok(Some(Working::Right(parameter(rest)?))),
-        "raise" => Ok(Some(Working::Raise)),
-        "turn" => Ok(Some(Working::Turn)),
-        _ => Ok(None),
+// The working that a line names: its word becomes a working here.
+fn working(line: &Line) -> Result<Working, Trouble> {
+    match line.word {
+        "left" => Ok(Working::Left(parameter(line.rest)?)),
+        "right" => Ok(Working::Right(parameter(line.rest)?)),
+        "raise" => Ok(Working::Raise),
+        "turn" => Ok(Working::Turn),
+        _ => Err(Trouble::Text("no such word")),
     }
 }
 
@@ -43,32 +73,42 @@ impl<K: Described> Description<K> {
         }
     }
 
-    // Takes in one line, by its first word and the rest.
-    pub fn take(&mut self, heap: Global, word: &str, rest: &str) -> Result<(), Trouble> {
-        match word {
+    // Takes in one line, whose word tells what it is about.
+    pub fn take(&mut self, heap: Global, line: &Line) -> Result<(), Trouble> {
+        match line.word {
             "name" => {
                 if self.name.is_some() {
                     return Err(Trouble::Text("a second name"));
                 }
-                self.name = Some(name(heap, rest.as_bytes())?);
+                self.name = Some(name(heap, line.rest.as_bytes())?);
             }
             "allowance" => {
                 if self.allowance.is_some() {
                     return Err(Trouble::Text("a second allowance"));
                 }
-                self.allowance = Some(small_number(rest)?);
+                self.allowance = Some(small_number(line.rest)?);
             }
             "point" => {
                 if !self.workings.is_empty() {
                     return Err(Trouble::Text("a point after a working"));
                 }
-                self.points.push(point(heap, rest)?)?;
+                self.points.push(point(heap, line.rest)?)?;
             }
-            _ => match working(word, rest)? {
-                Some(w) => self.workings.push(w)?,
-                None => return Err(Trouble::Text("no such word")),
-            },
+            _ => self.workings.push(working(line)?)?,
         }
         Ok(())
+    }
+
+    // Writes the file that is described onto a buffer, and answers its length.
+    pub fn write(&self, buffer: &mut [u8]) -> Result<usize, Trouble> {
+        let name = self.name.as_ref().ok_or(Trouble::Text("no name"))?;
+        let allowance = self.allowance.ok_or(Trouble::Text("no allowance"))?;
+        Ok(write_file(
+            buffer,
+            name.as_slice(),
+            allowance,
+            self.points.as_slice(),
+            self.workings.as_slice(),
+        )?)
     }
 }

@@ -2,48 +2,46 @@ use points::fault::Fault;
 use points::kind::Kind;
 use points::parameter::Parameter;
 use polygons::elevation::raise;
-use polygons::flatness::{Flatness, flat_test};
+use polygons::flatness::{Off, flat_test};
 use polygons::level::level;
 use polygons::reversal::turn;
 use polygons::subdivision::{left, right};
 use std::io;
-use tables::made::{Made, fill};
+use tables::listing::{Listed, Placed};
+use tables::made::{Made, points};
 
-// What a call left first on a buffer, or its refusal.
-fn list_points<K: Kind>(
-    rt: &HostRuntime,
+// What a call left on a buffer, or its refusal.
+fn list_result<K: Kind>(
+    rt: &impl Print,
     label: &str,
     r: Result<(), Fault>,
-    points: &[K],
+    buffer: &[K],
 ) -> io::Result<()> {
-    print!(rt; "{label}")?;
     match r {
-        Ok(()) => {
-            for p in points {
-                for a in 0..K::axes() {
-                    let v = p.axis(a);
-                    print!(rt; " {v}")?;
-                }
-            }
-        }
-        Err(f) => {
-            let number = f.refusal.number();
-            let place = f.place;
-            print!(rt; " refused {number} place {place}")?;
-        }
+        Ok(()) => println!(rt; "{label}{}", Listed(buffer)),
+        Err(f) => println!(rt; "{label} {}", Placed(f)),
     }
-    println!(rt; "")
 }
 
-fn list_flatness(rt: &HostRuntime, r: Result<Flatness, Fault>) -> io::Result<()> {
+// What a construction in place makes of the points that the values are.
+fn list_worked<K: Made, F: FnOnce(&mut [K]) -> Result<(), Fault>>(
+    rt: &HostRuntime,
+    label: &str,
+    values: &[i32],
+    work: F,
+) -> io::Result<()>
+    requires { F.IsAlwaysCallable work }
+{
+    let mut polygon: Vec<K> = points(rt.alloc(), values)?;
+    let r = work(polygon.as_mut_slice());
+    list_result(rt, label, r, polygon.as_slice())
+}
+
+fn list_flatness(rt: &impl Print, r: Result<Option<Off>, Fault>) -> io::Result<()> {
     match r {
-        Ok(Flatness::Flat) => println!(rt; "flat"),
-        Ok(Flatness::Off { point, axis }) => println!(rt; "off at point {point} axis {axis}"),
-        Err(f) => {
-            let number = f.refusal.number();
-            let place = f.place;
-            println!(rt; "flatness refused {number} place {place}")
-        }
+        Ok(None) => println!(rt; "flat"),
+        Ok(Some(off)) => println!(rt; "off at point {} axis {}", off.point, off.axis),
+        Err(f) => println!(rt; "flatness {}", Placed(f)),
     }
 }
 
@@ -53,30 +51,16 @@ pub fn list_polygon<K: Made>(
     values: &[i32],
     t: Parameter,
     tolerance: u16,
-    buffer: &mut [K],
 ) -> io::Result<()> {
-    let n = fill(buffer, values);
-    if n > buffer.len() {
-        return Ok(());
-    }
-    let r = level(&mut buffer[0..n], t);
-    list_points(rt, "level", r, &buffer[0..n])?;
-    fill(buffer, values);
-    let r = left(&mut buffer[0..n], t);
-    list_points(rt, "left", r, &buffer[0..n])?;
-    fill(buffer, values);
-    let r = right(&mut buffer[0..n], t);
-    list_points(rt, "right", r, &buffer[0..n])?;
-    fill(buffer, values);
-    let r = turn(&mut buffer[0..n]);
-    list_points(rt, "turn", r, &buffer[0..n])?;
-    fill(buffer, values);
-    list_flatness(rt, flat_test(&buffer[0..n], tolerance))?;
-    let r = raise(buffer, n);
-    list_points(
-        rt,
-        "raise",
-        r,
-        buffer.get(0..n.saturating_add(1)).unwrap_or(&[]),
-    )
+    list_worked(rt, "level", values, |p: &mut [K]| level(p, t))?;
+    list_worked(rt, "left", values, |p: &mut [K]| left(p, t))?;
+    list_worked(rt, "right", values, |p: &mut [K]| right(p, t))?;
+    list_worked(rt, "turn", values, |p: &mut [K]| turn(p))?;
+    let mut buffer: Vec<K> = points(rt.alloc(), values)?;
+    list_flatness(rt, flat_test(buffer.as_slice(), tolerance))?;
+    let n = buffer.len();
+    buffer.resize(n.saturating_add(2), K::made(&[]))?;
+    let r = raise(buffer.as_mut_slice(), n);
+    buffer.truncate(n.saturating_add(1));
+    list_result(rt, "raise", r, buffer.as_slice())
 }

@@ -10,17 +10,16 @@ use points::height::Height;
 use points::parameter::Parameter;
 use points::planar::Planar;
 use points::sample::Sample;
-use std::io::Read;
 
+// A line has numbers of its own form in each trial. The name of a kind becomes a type here.
 fn list_line(rt: &HostRuntime, line: &str) -> anyhow::Result<()> {
     let mut words = line.split_whitespace();
     let Some(kind) = words.next() else {
         return Ok(());
     };
-    let mut numbers = Vec::new(rt.alloc());
-    for w in words {
-        numbers.push(w.parse::<i32>()?)?;
-    }
+    let numbers: Vec<i32> = words
+        .map(|w| -> anyhow::Result<i32> { Ok(w.parse::<i32>()?) })
+        .try_collect(rt.alloc())?;
     let [k, a, tolerance, values @ ..] = numbers.as_slice() else {
         return Err(anyhow!("a line of too few words"));
     };
@@ -31,28 +30,17 @@ fn list_line(rt: &HostRuntime, line: &str) -> anyhow::Result<()> {
     let q = u16::try_from(*tolerance)?;
     println!(rt; "{line}")?;
     match kind {
-        "height" => list_polygon(rt, values, t, q, &mut [Height { z: 0 }; 18])?,
-        "planar" => list_polygon(rt, values, t, q, &mut [Planar { x: 0, y: 0 }; 18])?,
-        _ => list_polygon(
-            rt,
-            values,
-            t,
-            q,
-            &mut [Sample {
-                x: 0,
-                y: 0,
-                press: 0,
-            }; 18],
-        )?,
+        "height" => list_polygon::<Height>(rt, values, t, q)?,
+        "planar" => list_polygon::<Planar>(rt, values, t, q)?,
+        _ => list_polygon::<Sample>(rt, values, t, q)?,
     }
     Ok(())
 }
 
+// Each trial reads a table of its own, a line at a time.
 fn main(rt: HostRuntime) -> anyhow::Result<()> {
-    let mut text = String::new(rt.alloc());
-    rt.stdin().read_to_string(&mut text)?;
-    for line in text.as_str().lines() {
-        list_line(&rt, line)?;
+    for line in rt.lines(rt.alloc()) {
+        list_line(&rt, line?.as_str())?;
     }
     Ok(())
 }

@@ -1,55 +1,60 @@
+ghost use Rattle.std.specs.Prelude.{◌≡◌, ◌/◌, length, IfOk};
+
 use points::height::Height;
 use points::kind::Kind;
 use points::planar::Planar;
 use points::sample::Sample;
+use std::alloc::{AllocError, Global};
 
-// A kind whose points are made from axis values, for tables of numbers.
+// A kind whose points are made from axis values, for tables of numbers. Each kind names its own fields.
 pub trait Made: Kind {
-    fn made(axes: [i32; 3]) -> Self;
+    // The point with these values on its axes, and 0 on one that they lack.
+    fn made(axes: &[i32]) -> Self;
+}
+
+fn value(axes: &[i32], a: usize) -> i32 {
+    axes.get(a).copied().unwrap_or(0)
 }
 
 impl Made for Height {
-    fn made(axes: [i32; 3]) -> Height {
-        Height { z: axes[0] }
+    fn made(axes: &[i32]) -> Height {
+        Height { z: value(axes, 0) }
     }
 }
 
 impl Made for Planar {
-    fn made(axes: [i32; 3]) -> Planar {
+    fn made(axes: &[i32]) -> Planar {
         Planar {
-            x: axes[0],
-            y: axes[1],
+            x: value(axes, 0),
+            y: value(axes, 1),
         }
     }
 }
 
-// A press over 4,095 is stored as it is, so far as the record can hold it.
+// A press over 4,095 is stored as it is; one that the record cannot hold becomes 0.
 impl Made for Sample {
-    fn made(axes: [i32; 3]) -> Sample {
-        let press = u16::try_from(axes[2]).unwrap_or(0);
+    fn made(axes: &[i32]) -> Sample {
         Sample {
-            x: axes[0],
-            y: axes[1],
-            press,
+            x: value(axes, 0),
+            y: value(axes, 1),
+            press: u16::try_from(value(axes, 2)).unwrap_or(0),
         }
     }
+}
+
+// The points that the values are, axis after axis; values that are too few for a point more are left out.
+pub fn points<K: Made>(heap: Global, values: &[i32]) -> Result<Vec<K>, AllocError>
+    ensures { IfOk result (λ made. length made.items ≡ length values.now / K.width) }
+{
+    let mut points = vec![in heap; K::made(&[]); values.len() / K::axes()]?;
+    fill(points.as_mut_slice(), values);
+    Ok(points)
 }
 
 // Fills the buffer from the front with the points that the values are, axis after axis; says how many.
 pub fn fill<K: Made>(buffer: &mut [K], values: &[i32]) -> usize {
-    let mut next = 0usize;
-    for i in 0..buffer.len() {
-        let mut axes = [0; 3];
-        for a in 0..K::axes() {
-            let Some(v) = values.get(next) else {
-                return i;
-            };
-            if a < 3 {
-                axes[a] = *v;
-            }
-            next = next.saturating_add(1);
-        }
-        buffer[i] = K::made(axes);
+    for (place, axes) in buffer.iter_mut().zip(values.chunks_exact(K::axes())) {
+        *place = K::made(axes);
     }
-    buffer.len()
+    buffer.len().min(values.len() / K::axes())
 }

@@ -1,4 +1,5 @@
 // Tests of the kernel on values that an independent program computed from the rules.
+// Buffers are arrays, as callers without a heap have them; what a call has to leave holds a mark.
 #![tactic(auto)]
 
 #[cfg(test)]

@@ -20,10 +20,10 @@ const CUT_AT: [usize; 42] = [
     24, 24, 28, 28, 28, 28, 32, 32, 32, 32, 36, 36, 38, 39, 40, 40,
 ];
 
-// A change of one or two bytes of the bow, and the refusal that it gives, 0 where it still opens.
-// Where it is, its first byte and its second, if two are changed, then the refusal's number and place.
+// A change of one or two bytes of the bow: where it is, its first byte and its second, if two are changed, then the number and the place of the
+// refusal that it gives, if it does not open still.
 #[derive(Clone, Copy)]
-struct Change(usize, u8, Option<u8>, u8, usize);
+struct Change(usize, u8, Option<u8>, Option<(u8, usize)>);
 
 #[test]
 fn bow_opens(rt: HostRuntime) -> Result<(), Fail> {
@@ -54,52 +54,53 @@ fn bow_opens(rt: HostRuntime) -> Result<(), Fail> {
 #[test]
 fn cut_files_are_refused(rt: HostRuntime) -> Result<(), Fail> {
     let bow: &[u8] = BOW;
-    for n in 0..42usize {
+    for (n, place) in CUT_AT.iter().enumerate() {
         let r: Result<Opened<Planar>, Fault> = open(&bow[0..n]);
-        refused(&rt, r, 6, CUT_AT[n])?;
+        refused(&rt, r, 6, *place)?;
     }
     Ok(())
 }
 
-fn try_change(rt: &impl Abort, c: &Change) -> Result<(), Fail> {
+fn try_change(rt: &impl Abort, change: &Change) -> Result<(), Fail> {
+    let Change(at, first, second, refusal) = *change;
     let mut file = *BOW;
-    if c.0 > 40 {
+    if at > 40 {
         return Err(Fail::new("a change past the file"));
     }
-    file[c.0] = c.1;
-    if let Some(b) = c.2 {
-        file[c.0 + 1] = b;
+    file[at] = first;
+    if let Some(b) = second {
+        file[at + 1] = b;
     }
     let r: Result<Opened<Planar>, Fault> = open(&file);
-    if c.3 == 0 {
+    let Some((number, place)) = refusal else {
         assert!(rt; r.is_ok());
         return Ok(());
-    }
-    refused(rt, r, c.3, c.4)
+    };
+    refused(rt, r, number, place)
 }
 
 #[test]
 fn counts_are_tested(rt: HostRuntime) -> Result<(), Fail> {
     let changes = [
-        Change(0, 0, Some(2), 5, 0),
-        Change(0, 0, Some(4), 5, 0),
-        Change(0, 1, Some(3), 5, 0),
-        Change(2, 0, None, 5, 2),
-        Change(2, 4, None, 5, 2),
-        Change(3, 255, Some(255), 0, 0),
-        Change(5, 0, Some(64), 6, 7),
-        Change(5, 0, Some(65), 12, 5),
-        Change(5, 0, Some(35), 6, 42),
-        Change(5, 0, Some(0), 3, 7),
-        Change(10, 0, Some(0), 3, 10),
-        Change(10, 0, Some(1), 3, 10),
-        Change(10, 0, Some(2), 7, 30),
-        Change(10, 0, Some(17), 6, 40),
-        Change(10, 0, Some(18), 3, 10),
-        Change(36, 0, Some(0), 7, 38),
-        Change(36, 0, Some(2), 6, 42),
-        Change(36, 1, Some(0), 6, 42),
-        Change(36, 1, Some(1), 12, 36),
+        Change(0, 0, Some(2), Some((5, 0))),
+        Change(0, 0, Some(4), Some((5, 0))),
+        Change(0, 1, Some(3), Some((5, 0))),
+        Change(2, 0, None, Some((5, 2))),
+        Change(2, 4, None, Some((5, 2))),
+        Change(3, 255, Some(255), None),
+        Change(5, 0, Some(64), Some((6, 7))),
+        Change(5, 0, Some(65), Some((12, 5))),
+        Change(5, 0, Some(35), Some((6, 42))),
+        Change(5, 0, Some(0), Some((3, 7))),
+        Change(10, 0, Some(0), Some((3, 10))),
+        Change(10, 0, Some(1), Some((3, 10))),
+        Change(10, 0, Some(2), Some((7, 30))),
+        Change(10, 0, Some(17), Some((6, 40))),
+        Change(10, 0, Some(18), Some((3, 10))),
+        Change(36, 0, Some(0), Some((7, 38))),
+        Change(36, 0, Some(2), Some((6, 42))),
+        Change(36, 1, Some(0), Some((6, 42))),
+        Change(36, 1, Some(1), Some((12, 36))),
     ];
     for c in &changes {
         try_change(&rt, c)?;
@@ -110,17 +111,17 @@ fn counts_are_tested(rt: HostRuntime) -> Result<(), Fail> {
 #[test]
 fn workings_are_tested(rt: HostRuntime) -> Result<(), Fail> {
     let changes = [
-        Change(38, 108, None, 11, 38),
-        Change(38, 85, None, 7, 39),
-        Change(38, 84, None, 7, 39),
-        Change(38, 82, None, 0, 0),
-        Change(38, 255, None, 11, 38),
-        Change(39, 0, None, 0, 0),
-        Change(39, 15, None, 0, 0),
-        Change(39, 16, None, 1, 39),
-        Change(39, 255, None, 1, 39),
-        Change(40, 0, Some(2), 0, 0),
-        Change(40, 0, Some(3), 1, 39),
+        Change(38, 108, None, Some((11, 38))),
+        Change(38, 85, None, Some((7, 39))),
+        Change(38, 84, None, Some((7, 39))),
+        Change(38, 82, None, None),
+        Change(38, 255, None, Some((11, 38))),
+        Change(39, 0, None, None),
+        Change(39, 15, None, None),
+        Change(39, 16, None, Some((1, 39))),
+        Change(39, 255, None, Some((1, 39))),
+        Change(40, 0, Some(2), None),
+        Change(40, 0, Some(3), Some((1, 39))),
     ];
     for c in &changes {
         try_change(&rt, c)?;
@@ -140,9 +141,7 @@ fn other_kinds_are_foreign(rt: HostRuntime) -> Result<(), Fail> {
 #[test]
 fn long_files_are_refused(rt: HostRuntime) -> Result<(), Fail> {
     let mut file = BOW.to_vec(rt.alloc())?;
-    for _ in 0..65493u32 {
-        file.push(0)?;
-    }
+    file.resize(65535, 0)?;
     let most: Result<Opened<Planar>, Fault> = open(file.as_slice());
     refused(&rt, most, 7, 42)?;
     file.push(0)?;

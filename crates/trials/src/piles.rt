@@ -1,4 +1,5 @@
-use crate::table::starts;
+use crate::refusals::refused_at;
+use crate::table::{HALF, starts};
 use points::fault::{Fault, Refusal};
 use points::height::Height;
 use points::parameter::Parameter;
@@ -8,13 +9,10 @@ use sources::evaluation::{coordinate, point};
 use sources::memory::InMemory;
 use sources::source::Source;
 use sources::worked::Worked;
-use std::process::Abort;
 use std::test::Fail;
 use tables::made::fill;
 use workings::survey::Survey;
 use workings::working::Working;
-
-const HALF: Parameter = Parameter { a: 1, k: 1 };
 
 const ORIGIN: Planar = Planar { x: 0, y: 0 };
 
@@ -24,25 +22,6 @@ const HILL: [Height; 3] = [Height { z: 0 }, Height { z: 5 }, Height { z: 7 }];
 
 fn over<S>(below: S, working: Working) -> Worked<S> {
     Worked { below, working }
-}
-
-// A refusal with number, storey and place.
-pub fn refused_at<T: Drop>(
-    rt: &impl Abort,
-    r: Result<T, Fault>,
-    number: u8,
-    storey: u8,
-    place: usize,
-) -> Result<(), Fail> {
-    match r {
-        Ok(_) => Err(Fail::new("not refused")),
-        Err(f) => {
-            assert_eq!(rt; f.refusal.number(), number);
-            assert_eq!(rt; f.storey, storey);
-            assert_eq!(rt; f.place, place);
-            Ok(())
-        }
-    }
 }
 
 #[test]
@@ -186,10 +165,8 @@ fn faults_climb(rt: HostRuntime) -> Result<(), Fail> {
 // Storeys stop at 255.
 #[test]
 fn storeys_stop(rt: HostRuntime) -> Result<(), Fail> {
-    let mut fault: Result<u8, Fault> = Err(Fault::new(Refusal::Degree, 1));
-    for _ in 0..300u16 {
-        fault = climb(fault);
-    }
+    let first: Result<u8, Fault> = Err(Fault::new(Refusal::Degree, 1));
+    let fault = (0..300u16).fold(first, |fault, _| climb(fault));
     refused_at(&rt, fault, 3, 255, 1)?;
     assert_eq!(rt; climb(Ok(7))?, 7);
     Ok(())

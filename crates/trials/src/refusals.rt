@@ -1,3 +1,4 @@
+use crate::table::HALF;
 use points::fault::{Fault, Refusal};
 use points::height::Height;
 use points::parameter::Parameter;
@@ -11,26 +12,34 @@ use polygons::subdivision::{left, right};
 use std::process::Abort;
 use std::test::Fail;
 
-const HALF: Parameter = Parameter { a: 1, k: 1 };
-
 const NINE: Height = Height { z: 9 };
 
-// A refusal with its number and its place, on storey 0.
+// A refusal with its number, its storey and its place. The tests have the numbers of the rules.
+pub fn refused_at<T: Drop>(
+    rt: &impl Abort,
+    r: Result<T, Fault>,
+    number: u8,
+    storey: u8,
+    place: usize,
+) -> Result<(), Fail> {
+    let Err(f) = r else {
+        return Err(Fail::new("not refused"));
+    };
+    assert_eq!(rt;
+        (u8::from(f.refusal), f.storey, f.place),
+        (number, storey, place)
+    );
+    Ok(())
+}
+
+// A refusal of a call itself, on storey 0.
 pub fn refused<T: Drop>(
     rt: &impl Abort,
     r: Result<T, Fault>,
     number: u8,
     place: usize,
 ) -> Result<(), Fail> {
-    match r {
-        Ok(_) => Err(Fail::new("not refused")),
-        Err(f) => {
-            assert_eq!(rt; f.refusal.number(), number);
-            assert_eq!(rt; f.place, place);
-            assert_eq!(rt; f.storey, 0);
-            Ok(())
-        }
-    }
+    refused_at(rt, r, number, 0, place)
 }
 
 #[test]

@@ -1,5 +1,5 @@
-use crate::piles::refused_at;
-use crate::table::starts;
+use crate::refusals::refused_at;
+use crate::table::{HALF, starts};
 use jobs::job::run;
 use points::height::Height;
 use points::parameter::Parameter;
@@ -12,9 +12,7 @@ use strands::strand::Strand;
 use tables::made::fill;
 use workings::working::Working;
 
-const HALF: Parameter = Parameter { a: 1, k: 1 };
-
-// The strand's two numbers and the start of its buffer.
+// The strand's two numbers.
 fn is(rt: &impl Abort, strand: &Strand, degree: usize, allowance: u16) {
     assert_eq!(rt; strand.degree(), degree);
     assert_eq!(rt; strand.allowance(), allowance);
