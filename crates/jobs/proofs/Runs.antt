@@ -26,7 +26,7 @@ polygon-written (fails f) d = omega arith
 polygon-written (holds h) d = omega arith
 
 -- what load leaves of the buffer
-loaded-rest : {X : Type 0} (c : X → Point) (m : Meaning) (before : List X) (s : State X) → load_of m (length before) ≡ Ok (s.degree, s.allowance) → Laid c m before s.buffer → drop (written m s.degree) s.buffer ≡ drop (written m s.degree) before
+pub loaded-rest : {X : Type 0} (c : X → Point) (m : Meaning) (before : List X) (s : State X) → load_of m (length before) ≡ Ok (s.degree, s.allowance) → Laid c m before s.buffer → drop (written m s.degree) s.buffer ≡ drop (written m s.degree) before
 loaded-rest c (fails f) before s e l = ap (drop (s.degree + 1)) l
 loaded-rest c (holds h) before s e l =
     let t = told-ok (draw_of (holds h) (length before)) s.degree s.allowance e in
@@ -34,9 +34,12 @@ loaded-rest c (holds h) before s e l =
     drop-further s.buffer before h.reach (max h.reach (s.degree + 1)) (omega arith) (l.1 k.0).1
 
 -- and what was done to it since
-pub rest_from : {X : Type 0} (c : X → Point) (m : Meaning) (e : ℕ) (before after : List X) (s : State X) → Ok (s.degree, s.allowance) ≡ load_of m (length before) → Laid c m before s.buffer → s.degree ≤ e → drop (written m e) after ≡ drop (written m e) s.buffer → drop (written m e) after ≡ drop (written m e) before
-rest_from c m e before after s load laid l q =
-    q ∙ drop-further s.buffer before (written m s.degree) (written m e) (more-written m s.degree e l) (loaded-rest c m before s (sym load) laid)
+pub rest_from : {X : Type 0} (m : Meaning) (d e : ℕ) (before loaded after : List X) → d ≤ e → drop (written m d) loaded ≡ drop (written m d) before → drop (written m e) after ≡ drop (written m e) loaded → drop (written m e) after ≡ drop (written m e) before
+rest_from m d e before loaded after l p q = q ∙ drop-further loaded before (written m d) (written m e) (more-written m d e l) p
+
+-- both, of a strand that was loaded
+pub rest_since : {X : Type 0} (c : X → Point) (m : Meaning) (e : ℕ) (before after : List X) (s : State X) → Ok (s.degree, s.allowance) ≡ load_of m (length before) → Laid c m before s.buffer → s.degree ≤ e → drop (written m e) after ≡ drop (written m e) s.buffer → drop (written m e) after ≡ drop (written m e) before
+rest_since c m e before after s load laid l q = rest_from m s.degree e before s.buffer after l (loaded-rest c m before s (sym load) laid) q
 
 -- workings that were done one after another keep their pile, and its points are accurate
 pub ran : {X : Type 0} (c : X → Point) (width : ℕ) (m : Meaning) (ws : List Working) (n : ℕ) (f : Option Fault) (before : List X) (s : State X) → Reaches c m (map works (take n ws)) (take n ws) s → Stopped ws n f s → drop (written m s.degree) s.buffer ≡ drop (written m s.degree) before → Ran c m ws n f before s × Carries c width m (take n ws) s

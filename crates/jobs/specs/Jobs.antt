@@ -52,8 +52,8 @@ pub record Carries {X : Type 0} (c : X → Point) (width : ℕ) (m : Meaning) (w
 abbrev pub CarriesDone : {X : Type 0} → (X → Point) → ℕ → Meaning → List Working → List X → Result Job Fault → Type 0
 CarriesDone c width m ws after r = IfOk r (λ j. Carries c width m (take j.done ws) (state j.strand after))
 
--- The answer of a job on an opened file, by what reading it comes to: its workings over its points. The first equation is for a reading that fails, which no
--- opened file has; more workings than a file can have are refused with 2, with their number.
+-- The answer of a job on an opened file, by what reading it comes to: its workings over its points. A value that is no file is refused by the fault of
+-- reading it, and one with more workings than a file can have by 2, with their number.
 abbrev pub FileAnswers : {X : Type 0} → (X → Point) → ℕ → Read File → List X → List X → Result Job Fault → Type 0
 FileAnswers c width (bad e) before after r = (r ≡ Err e) × (after ≡ before)
 FileAnswers c width (took f rest) before after r =

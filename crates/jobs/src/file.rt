@@ -13,6 +13,7 @@ use workings::working::Working;
 pub fn run_file<K: Filed>(file: &Opened<K>, buffer: &mut [K]) -> Result<Job, Fault>
     ensures { FileAnswers K.Kind.coord K.Kind.width (says K.kind file.now) buffer.old buffer.new result }
 {
+    file.check()?;
     // There is no heap, so they lie in an array that has room for the most.
     let mut list = [Working::Turn; 256];
     let n = file.workings(&mut list)?;

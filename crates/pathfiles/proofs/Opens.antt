@@ -5,13 +5,11 @@ use Rattle.std.proofs.lemmas.Bool.{cond-true, cond-false, lt-ltb, le-ltb}
 use Rattle.points.specs.Refusals.{refuse}
 use Rattle.points.specs.declared.fault.Fault.{Fault}
 use Rattle.points.specs.declared.fault.Refusal.TheVariants.{Tail, Overlong}
-use Rattle.points.specs.declared.kind.Kind.{Ghosts as Kind}
 use Rattle.pathformat.specs.declared.kind.FileKind.{FileKind}
 use Rattle.pathformat.specs.Reading.{took, bad, fault}
 use Rattle.pathformat.specs.Writing.{Bytes}
 use Rattle.pathformat.specs.File.{File, sections, ended, decode, encode}
 use Rattle.pathformat.proofs.Trip.{reads-back, is-file}
-use Rattle.pathreading.specs.declared.filed.Filed.{Ghosts as Filed}
 use Rattle.pathfiles.specs.declared.opened.Opened.{Opened}
 use Rattle.pathfiles.specs.Opened.{OpensBy, Holds, NoFile}
 
@@ -32,5 +30,5 @@ no-file k bs e h f is =
     let reads : decode k bs ≡ took f [] = ap (decode k) is.bytes ∙ ap (λ j. decode j (encode f)) (sym is.kind) ∙ reads-back f is.fileable in
     cc
 
-pub exactly : {K : Type 0} {fs : Filed K} {ks : Kind K} (k : FileKind) (bs : List ℕ) → Bytes bs → (r : Result (Opened K fs ks) Fault) → OpensBy (decode k bs) k r → MatchResult r (Holds k bs) (λ _. NoFile k bs)
+pub exactly : {K : Type 0} (k : FileKind) (bs : List ℕ) → Bytes bs → (r : Result (Opened K) Fault) → OpensBy (decode k bs) k r → MatchResult r (Holds k bs) (λ _. NoFile k bs)
 exactly k bs b r h = MatchResult-weaker r h (λ o t. record { file = t.file; is = is-file k bs t.file [] b t.read; said = t.said }) (no-file k bs)

@@ -1,18 +1,17 @@
 -- What an opened file says, part by part.
-use Rattle.std.proofs.Common.{◌≡◌, ℕ, List, [], length, sym, ap, ◌∙◌}
-use Rattle.points.specs.declared.kind.Kind.{Ghosts as Kind}
+use Rattle.std.proofs.Common.{◌≡◌, ℕ, true, List, [], length, ap, ◌∙◌}
+use Rattle.std.specs.List.{slice_get}
 use Rattle.pathformat.specs.declared.kind.FileKind.{FileKind}
 use Rattle.pathformat.specs.Reading.{took, values, Ends}
 use Rattle.pathformat.specs.File.{File, point_at, working_at}
 use Rattle.pathformat.proofs.Fields.{taken-after, at_after}
-use Rattle.pathreading.specs.declared.filed.Filed.{Ghosts as Filed}
 use Rattle.pathfiles.specs.declared.opened.Opened.{Opened}
-use Rattle.pathfiles.specs.Opened.{points_of, workings_of, says, file_of}
-use Rattle.pathreading.proofs.Many.{many-length}
-use Rattle.pathreading.proofs.Sections.{section-read}
+use Rattle.pathfiles.specs.Opened.{points_of, workings_of, says}
+use Rattle.pathreading.specs.Sections.{item_at, went_through, all_read}
+use Rattle.pathreading.proofs.Sections.{count-read, item-read}
 
 -- the parts of the file f that o says
-pub record Parts {K : Type 0} {fs : Filed K} {ks : Kind K} (k : FileKind) (o : Opened K fs ks) (f : File) : Type 0 where
+pub record Parts {K : Type 0} (k : FileKind) (o : Opened K) (f : File) : Type 0 where
   pub kind : k ≡ f.kind
   pub allowance : o.allowance ≡ f.allowance
   pub name : o.name.now ≡ f.name
@@ -21,7 +20,7 @@ pub record Parts {K : Type 0} {fs : Filed K} {ks : Kind K} (k : FileKind) (o : O
   pub after_workings : List ℕ
   pub workings : workings_of o ≡ took f.workings after_workings
 
-module _ {K : Type 0} {fs : Filed K} {ks : Kind K} (k : FileKind) (o : Opened K fs ks) where
+module _ {K : Type 0} (k : FileKind) (o : Opened K) where
   pub parts : (f : File) → says k o ≡ took f [] → Parts k o f
   parts f e =
       let t = taken-after (points_of k o) _ f [] e in
@@ -38,24 +37,27 @@ module _ {K : Type 0} {fs : Filed K} {ks : Kind K} (k : FileKind) (o : Opened K 
         workings = v.2 ∙ ap (λ x. took x.workings v.1) same;
       }
 
-  pub point-count-said : (f : File) → says k o ≡ took f [] → o.points.count ≡ length f.points
-  point-count-said f e = let p = parts f e in sym (many-length (point_at k) o.points.items.total o.points.count o.points.items.rest.now f.points p.after_points p.points)
-
   -- where the points and the workings read, it says their file
-  pub both_read : (r s : List ℕ) → Ends (points_of k o) r → Ends (workings_of o) s → says k o ≡ took (file_of k o) []
+  pub both_read : (r s : List ℕ) → Ends (points_of k o) r → Ends (workings_of o) s → says k o ≡ took (record { kind = k; allowance = o.allowance; name = o.name.now; points = values (points_of k o); workings = values (workings_of o) }) []
   both_read r s e f = at_after (points_of k o) _ _ r e ∙ at_after (workings_of o) _ _ s f
 
-  -- it says no other file
-  pub file-of-is : (f : File) → says k o ≡ took f [] → file_of k o ≡ f
-  file-of-is f e =
-      let p = parts f e in
-      let ps = ap values p.points in
-      let ws = ap values p.workings in
-      let kind = p.kind in
-      let allowance = p.allowance in
-      let name = p.name in (cc)
+  -- where it says a file, all of them read
+  pub points-read : (f : File) → says k o ≡ took f [] → all_read (point_at k) o.points ≡ true
+  points-read f e = ap went_through (parts f e).points
 
--- what an opened file says is its own file, whole
-pub says-file : {K : Type 0} {fs : Filed K} {ks : Kind K} (o : Opened K fs ks) → says fs.kind o ≡ took (file_of fs.kind o) []
-says-file {fs = fs} o =
-    both_read fs.kind o _ _ (section-read (point_at fs.kind) o.points o.points_read).1 (section-read working_at o.workings o.workings_read).1
+  pub workings-read : (f : File) → says k o ≡ took f [] → all_read working_at o.workings ≡ true
+  workings-read f e = ap went_through (parts f e).workings
+
+  -- they are as many as those of the file
+  pub point-count-said : (f : File) → says k o ≡ took f [] → o.points.count ≡ length f.points
+  point-count-said f e = count-read (point_at k) o.points (points-read f e) ∙ ap (λ q. length (values q)) (parts f e).points
+
+  pub working-count-said : (f : File) → says k o ≡ took f [] → o.workings.count ≡ length f.workings
+  working-count-said f e = count-read working_at o.workings (workings-read f e) ∙ ap (λ q. length (values q)) (parts f e).workings
+
+  -- the items at an index are those of the file
+  pub point-said : (i : ℕ) (f : File) → says k o ≡ took f [] → item_at (point_at k) o.points i ≡ slice_get f.points i
+  point-said i f e = item-read (point_at k) o.points (points-read f e) i ∙ ap (λ q. slice_get (values q) i) (parts f e).points
+
+  pub working-said : (i : ℕ) (f : File) → says k o ≡ took f [] → item_at working_at o.workings i ≡ slice_get f.workings i
+  working-said i f e = item-read working_at o.workings (workings-read f e) i ∙ ap (λ q. slice_get (values q) i) (parts f e).workings

@@ -4,8 +4,8 @@ use Rattle.pathformat.specs.Reading.{Read, took, bad}
 use Rattle.pathformat.specs.File.{File, point_of}
 use Rattle.sources.specs.Meaning.{Meaning, fails, in_memory}
 
--- The points and the allowance of the file that it says. The second equation is for a reading that fails, which no opened file has. The allowance is a
--- number of 16 bits, so its bound changes nothing.
+-- The points and the allowance of the file that it says; a value that says no file means the fault of reading it. The allowance is a number of 16 bits, so
+-- its bound changes nothing.
 abbrev pub filed : Read File → Meaning
 filed (took f r) = in_memory (map point_of f.points) (min f.allowance 65535)
 filed (bad e) = fails e

@@ -3,14 +3,12 @@ use Rattle.std.specs.Prelude.{◌≡◌, ℕ, zero, suc, min, Bool, true, false,
 use Rattle.std.proofs.Common.{arith}
 use Rattle.points.specs.declared.fault.Refusal.{Refusal}
 use Rattle.points.specs.declared.fault.Refusal.TheVariants.{OffScale, Short, Cut, Press, Letter}
-use Rattle.points.specs.declared.kind.Kind.{Ghosts as Kind}
 use Rattle.workings.specs.declared.working.Working.TheVariants.{Left, Right, Raise, Turn}
 use Rattle.sources.specs.Meaning.{Sound}
 use Rattle.sources.specs.Sounds.{memory_sound}
 use Rattle.pathformat.specs.declared.kind.FileKind.{FileKind}
 use Rattle.pathformat.specs.Reading.{Read, took, bad, fault, after, one, two, four, checked, many}
 use Rattle.pathformat.specs.File.{Field, axis, press, fields, point_of, press_at, field_at, fields_at, point_at, pair_at, parameter_at, working_at}
-use Rattle.pathreading.specs.declared.filed.Filed.{Ghosts as Filed}
 use Rattle.pathfiles.specs.declared.opened.Opened.{Opened}
 use Rattle.pathfiles.specs.Opened.{points_of, workings_of, says}
 use Rattle.pathfiles.specs.Filed.{filed}
@@ -81,11 +79,11 @@ letter-not n bs r false false false false = λ s. cc
 working-not : (n : ℕ) (bs : List ℕ) → NotShort (working_at n bs)
 working-not n bs = after-not (one n bs) _ (one-not n bs) (λ b r. letter-not n bs r (b == 76) (b == 82) (b == 85) (b == 84))
 
-says-not : {K : Type 0} {f : Filed K} {n : Kind K} (k : FileKind) (o : Opened K f n) → NotShort (says k o)
+says-not : {K : Type 0} (k : FileKind) (o : Opened K) → NotShort (says k o)
 says-not k o =
     after-not (points_of k o) _ (many-not (point_at k) (fields-not (fields k)) o.points.count o.points.items.total _) (λ ps _. after-not (workings_of o) _ (many-not working_at working-not o.workings.count o.workings.items.total _) (λ ws _. tt))
 
-pub filed_sound : {K : Type 0} {f : Filed K} {n : Kind K} (k : FileKind) (o : Opened K f n) → Sound (filed (says k o))
+pub filed_sound : {K : Type 0} (k : FileKind) (o : Opened K) → Sound (filed (says k o))
 filed_sound k o = by (says k o) (says-not k o)
   where
     by : (q : Read _) → NotShort q → Sound (filed q)

@@ -18,11 +18,12 @@ impl<'a, K: Filed> Source for Opened<'a, K> {
     ghost sound = { λ o. filed_sound K.Filed.kind o };
 
     fn survey(&self) -> Result<Survey, Fault> {
+        self.check()?;
         Survey::of_points(usize::from(self.point_count()), self.allowance())
     }
 
     fn draw(&self, buffer: &mut [K]) -> Result<Survey, Fault> {
-        let s = self.survey()?;
+        let s = self.survey()?.fitting(buffer.len())?;
         self.points(buffer)?;
         Ok(s)
     }

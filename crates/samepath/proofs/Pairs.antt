@@ -7,12 +7,12 @@ use Rattle.std.proofs.lemmas.Bool.{eqb-true}
 use Rattle.std.proofs.lemmas.List.Elements.{length_all_zip, AllZip-get_or, same_from_all_zip}
 use Rattle.std.proofs.lemmas.Option.{slice_get_cases, slice_get_within, get_or_from_slice_get}
 use Rattle.std.proofs.lemmas.Bool.Decides.{not_from_Decides}
-use Rattle.points.specs.declared.kind.Kind.{Ghosts as Kind}
-use Rattle.pathreading.specs.declared.filed.Filed.{Ghosts as Filed}
+use Rattle.points.specs.declared.fault.Fault.{Fault}
+use Rattle.pathformat.specs.declared.kind.FileKind.{FileKind}
+use Rattle.pathformat.specs.Reading.{bad}
 use Rattle.pathfiles.specs.declared.opened.Opened.{Opened}
-use Rattle.pathfiles.specs.Opened.{file_of}
-use Rattle.pathfiles.proofs.Says.{says-file, file-of-is}
-use Rattle.samepath.specs.Same.{SameWorking, Pairwise, SamePath, SameSaid}
+use Rattle.pathfiles.specs.Opened.{says, Said}
+use Rattle.samepath.specs.Same.{SameWorking, Pairwise, SameSaid, SayBoth}
 
 some-at : {X : Type 0} (xs : List X) (i : ℕ) → i < length xs → (x : X) × (Some x ≡ slice_get xs i)
 some-at xs i h = ⊎_elim (λ p. (p.0, sym p.2)) (λ p. absurd (omega (arith, p.0))) (slice_get_cases xs i).1
@@ -36,7 +36,7 @@ module _ {X : Type 0} (R : X → X → Type 0) where
   abbrev pub DifferAt : List X → List X → ℕ → Type 0
   DifferAt xs ys i = (x y : X) → Some x ≡ slice_get xs i → Some y ≡ slice_get ys i → R x y → ⊥
 
-  pairs-at : (xs ys : List X) (i : ℕ) → Pairwise R xs ys → AgreeAt xs ys i
+  pub pairs-at : (xs ys : List X) (i : ℕ) → Pairwise R xs ys → AgreeAt xs ys i
   pairs-at xs ys i h x y p q =
       let z : R (get_or xs i x) (get_or ys i y) = AllZip-get_or R xs ys i x y (zipped xs ys h) (slice_get_within xs i x (sym p)) in
       subst (λ c. R c y) (get_or_from_slice_get xs i x x (sym p)) (subst (R (get_or xs i x)) (get_or_from_slice_get ys i y y (sym q)) z)
@@ -70,24 +70,29 @@ pub refuted : {P : Type 0} → (P → ⊥) → Decides false P
 refuted h = ((λ e. absurd (cc)), (λ p. absurd (h p)))
 
 -- two opened files, from their points and their workings
-module _ {K : Type 0} {fs : Filed K} {ks : Kind K} (a b : Opened K fs ks) (r s : Bool) (points : Decides r (Pairwise (λ x y. x ≡ y) (file_of fs.kind a).points (file_of fs.kind b).points)) where
-  -- what both say is what they are
-  of-said : SameSaid fs.kind a b → SamePath (file_of fs.kind a) (file_of fs.kind b)
-  of-said d =
-      subst (λ f. SamePath f (file_of fs.kind b)) (sym (file-of-is fs.kind a d.first d.first_said)) (subst (SamePath d.first) (sym (file-of-is fs.kind b d.second d.second_said)) d.same)
+module _ {K : Type 0} (k : FileKind) (a b : Opened K) where
+  pub unsaid-first : (e : Fault) → says k a ≡ bad e → SameSaid k a b → ⊥
+  unsaid-first e h d = let p = d.first_said in cc
 
-  pub other-points : r ≡ false → SameSaid fs.kind a b → ⊥
-  other-points e d =
-      not_from_Decides r points e (subst (Pairwise (λ x y. x ≡ y) (file_of fs.kind a).points) (of-said d).points (pairs-same _ (λ x. refl) (file_of fs.kind a).points))
+  pub unsaid-second : (e : Fault) → says k b ≡ bad e → SameSaid k a b → ⊥
+  unsaid-second e h d = let p = d.second_said in cc
 
-  pub by-workings : r ≡ true → Decides s (Pairwise SameWorking (file_of fs.kind a).workings (file_of fs.kind b).workings) → Decides s (SameSaid fs.kind a b)
-  by-workings e workings = (
-    (λ h. record {
-      first = file_of fs.kind a;
-      second = file_of fs.kind b;
-      first_said = says-file a;
-      second_said = says-file b;
-      same = record { points = equal-from _ _ (points.0 e); workings = workings.0 h };
-    }),
-    (λ d. workings.1 (of-said d).workings),
-  )
+  module _ (r : Bool) (points : SayBoth k a b (λ f g. Decides r (Pairwise (λ x y. x ≡ y) f.points g.points))) where
+    pub other-points : r ≡ false → SameSaid k a b → ⊥
+    other-points e d =
+        not_from_Decides r (points d.first d.second d.first_said d.second_said) e (subst (Pairwise (λ x y. x ≡ y) d.first.points) d.same.points (pairs-same _ (λ x. refl) d.first.points))
+
+    pub by-workings : r ≡ true → (s : Bool) → Said k a → Said k b → SayBoth k a b (λ f g. Decides s (Pairwise SameWorking f.workings g.workings)) → Decides s (SameSaid k a b)
+    by-workings e s t u workings = (
+      (λ h. record {
+        first = t.file;
+        second = u.file;
+        first_said = t.said;
+        second_said = u.said;
+        same = record {
+          points = equal-from _ _ ((points t.file u.file t.said u.said).0 e);
+          workings = (workings t.file u.file t.said u.said).0 h;
+        };
+      }),
+      (λ d. (workings d.first d.second d.first_said d.second_said).1 d.same.workings),
+    )

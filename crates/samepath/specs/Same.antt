@@ -1,13 +1,11 @@
 -- The same path.
 use Rattle.std.specs.Prelude.{◌≡◌, ℕ, ◌*◌, ◌^◌, List, [], ◌∷◌}
-use Rattle.points.specs.declared.kind.Kind.{Ghosts as Kind}
 use Rattle.points.specs.declared.parameter.Parameter.{Parameter}
 use Rattle.workings.specs.declared.working.Working.{Working}
 use Rattle.workings.specs.declared.working.Working.TheVariants.{Left, Right, Raise, Turn}
 use Rattle.pathformat.specs.declared.kind.FileKind.{FileKind}
 use Rattle.pathformat.specs.Reading.{took}
 use Rattle.pathformat.specs.File.{File}
-use Rattle.pathreading.specs.declared.filed.Filed.{Ghosts as Filed}
 use Rattle.pathfiles.specs.declared.opened.Opened.{Opened}
 use Rattle.pathfiles.specs.Opened.{says}
 
@@ -50,9 +48,13 @@ pub record Equivalence {X : Type 0} (R : X → X → Type 0) : Type 0 where
   pub transitive : (x y z : X) → R x y → R y z → R x z
 
 -- two opened files both say a file, and these are the same path
-pub record SameSaid {K : Type 0} {fs : Filed K} {ks : Kind K} (k : FileKind) (a b : Opened K fs ks) : Type 0 where
+pub record SameSaid {K : Type 0} (k : FileKind) (a b : Opened K) : Type 0 where
   pub first : File
   pub second : File
   pub first_said : says k a ≡ took first []
   pub second_said : says k b ≡ took second []
   pub same : SamePath first second
+
+-- what holds of the files that two opened files say
+abbrev pub SayBoth : {K : Type 0} → FileKind → Opened K → Opened K → (File → File → Type 0) → Type 0
+SayBoth k a b P = (f g : File) → says k a ≡ took f [] → says k b ≡ took g [] → P f g

@@ -1,6 +1,5 @@
 ghost use Rattle.std.specs.Prelude.{◌≡◌, Decides};
-ghost use Rattle.samepath.specs.Same.{SameWorking, Pairwise, SamePath, Equivalence, SameSaid};
-ghost use Rattle.pathfiles.specs.Opened.{file_of};
+ghost use Rattle.samepath.specs.Same.{SameWorking, Pairwise, SamePath, Equivalence, SameSaid, SayBoth};
 
 use crate::numbers::same_working;
 use pathfiles::opened::Opened;
@@ -9,7 +8,7 @@ use points::kind::{Kind, same};
 
 // Points and workings are two calls of `all`: one function for both would take counts, items and comparison as closures, and be no shorter.
 fn same_points<K: Filed>(a: &Opened<K>, b: &Opened<K>) -> bool
-    ensures { Decides result (Pairwise (λ x y. x ≡ y) (file_of K.kind a.now).points (file_of K.kind b.now).points) }
+    ensures { SayBoth K.kind a.now b.now (λ f g. Decides result (Pairwise (λ x y. x ≡ y) f.points g.points)) }
 {
     let n = a.point_count();
     n == b.point_count()
@@ -20,7 +19,7 @@ fn same_points<K: Filed>(a: &Opened<K>, b: &Opened<K>) -> bool
 }
 
 fn same_workings<K: Filed>(a: &Opened<K>, b: &Opened<K>) -> bool
-    ensures { Decides result (Pairwise SameWorking (file_of K.kind a.now).workings (file_of K.kind b.now).workings) }
+    ensures { SayBoth K.kind a.now b.now (λ f g. Decides result (Pairwise SameWorking f.workings g.workings)) }
 {
     let n = a.working_count();
     n == b.working_count()
@@ -35,5 +34,11 @@ pub fn same_path<K: Filed>(a: &Opened<K>, b: &Opened<K>) -> bool
     ensures decides { Decides result (SameSaid K.kind a.now b.now) }
     ensures equivalence { Equivalence SamePath }
 {
+    let Ok(()) = a.check() else {
+        return false;
+    };
+    let Ok(()) = b.check() else {
+        return false;
+    };
     same_points(a, b) && same_workings(a, b)
 }

@@ -6,6 +6,7 @@ use points::height::Height;
 use points::parameter::Parameter;
 use points::planar::Planar;
 use points::sample::Sample;
+use std::alloc::AllocError;
 use std::process::Abort;
 use std::test::Fail;
 use workings::working::Working;
@@ -49,6 +50,21 @@ fn bow_opens(rt: HostRuntime) -> Result<(), Fail> {
     );
     refused(&rt, path.points(&mut points[0..2]), 2, 3)?;
     refused(&rt, path.workings(&mut workings[0..0]), 2, 1)
+}
+
+// Code for any kind that copies keeps an opened file without knowing how its points read.
+fn kept<'a, K: Copy>(path: &Opened<'a, K>) -> Result<Opened<'a, K>, AllocError> {
+    path.clone()
+}
+
+#[test]
+fn opened_files_of_any_kind_are_kept(rt: HostRuntime) -> Result<(), Fail> {
+    let path: Opened<Planar> = open(BOW)?;
+    let copy = kept(&path)?;
+    assert_eq!(rt; copy.name(), b"bow".as_slice());
+    assert_eq!(rt; copy.point(1), Some(Planar { x: 4, y: 8 }));
+    assert_eq!(rt; copy.point(3), None);
+    Ok(())
 }
 
 #[test]

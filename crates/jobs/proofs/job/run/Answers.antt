@@ -1,7 +1,7 @@
 use Rattle.std.proofs.Common.{◌≡◌, length, take, None, refl, subst, arith}
 use Rattle.strands.specs.States.{state}
 use Rattle.jobs.specs.Jobs.{Ran, Carries}
-use Rattle.jobs.proofs.Runs.{rest_from, ran, done_more, done-stop}
+use Rattle.jobs.proofs.Runs.{rest_since, ran, done_more, done-stop}
 use Rattle.jobs.proofs.job.run.Goals as goal
 
 pub returns-in-Err : goal.returns-in-Err
@@ -10,7 +10,7 @@ returns-in-Err g c =
     let m = g.S.Source.means c.args.source.now in
     let s = state c.loop-done.strand c.loop-done.buffer in
     let s' = state c.work.new.self c.work.new.buffer in
-    let rest = rest_from co m _ c.args.buffer.now c.loop-done.buffer (state c.in_ok-strand.strand c.load.new.buffer) c.in_ok-strand.ensures.answer c.load.ensures.laid c.loop-done.invariant.1 c.loop-done.invariant.0.1 in
+    let rest = rest_since co m _ c.args.buffer.now c.loop-done.buffer (state c.in_ok-strand.strand c.load.new.buffer) c.in_ok-strand.ensures.answer c.load.ensures.laid c.loop-done.invariant.1 c.loop-done.invariant.0.1 in
     let both = done-stop co m c.args.workings.now c.loop-done.done _ _ c.load.new.buffer s s' c.loop-done-test.true refl c.in-Err.f c.args.buffer.now c.in-Err.ensures.step c.loop-done.invariant.0.0 rest g.S.K.Kind.width in
     record { answers = both.0; carries = both.1 }
 
@@ -27,7 +27,7 @@ pub returns : goal.returns
 returns g c =
     let co = g.S.K.Kind.coord in
     let m = g.S.Source.means c.args.source.now in
-    let rest = rest_from co m _ c.args.buffer.now c.loop-done.buffer (state c.in_ok-strand.strand c.load.new.buffer) c.in_ok-strand.ensures.answer c.load.ensures.laid c.loop-done.invariant.1 c.loop-done.invariant.0.1 in
+    let rest = rest_since co m _ c.args.buffer.now c.loop-done.buffer (state c.in_ok-strand.strand c.load.new.buffer) c.in_ok-strand.ensures.answer c.load.ensures.laid c.loop-done.invariant.1 c.loop-done.invariant.0.1 in
     let s = state c.loop-done.strand c.loop-done.buffer in
     let ws = c.args.workings.now in
     let all : c.loop-done.done ≡ length ws = omega arith in

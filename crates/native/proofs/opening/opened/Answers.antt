@@ -14,4 +14,4 @@ pub returns-in_err-points-clause-points : goal.returns-in_err-points-clause-poin
 returns-in_err-points-clause-points c = (unfiled (decode PlanarFile c.args.file.now) c.in_ok-o.o c.in_ok-o.ensures.answer c.args.buffer.now c.points.new.buffer c.in_err-points.field-0.0 c.in_err-points.ensures.answer c.in_err-points.ensures.buffer).1
 
 pub returns-clause-points : goal.returns-clause-points
-returns-clause-points c = filed (decode PlanarFile c.args.file.now) c.in_ok-o.o c.in_ok-o.ensures.answer c.args.buffer.now c.points.new.buffer c.in_ok-points.field-0 c.in_ok-points.ensures.answer c.in_ok-points.ensures.buffer
+returns-clause-points c = (filed (decode PlanarFile c.args.file.now) c.in_ok-o.o c.in_ok-o.ensures.answer c.args.buffer.now c.points.new.buffer c.in_ok-points.field-0 c.in_ok-points.ensures.answer c.in_ok-points.ensures.buffer).1

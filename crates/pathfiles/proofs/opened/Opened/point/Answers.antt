@@ -1,7 +1,6 @@
 use Rattle.std.proofs.Common.{◌∙◌}
-use Rattle.pathformat.specs.File.{point_at}
-use Rattle.pathreading.proofs.Sections.{item-read}
+use Rattle.pathfiles.proofs.Says.{point-said}
 use Rattle.pathfiles.proofs.opened.Opened.point.Goals as goal
 
 pub returns-clause-said : goal.returns-clause-said
-returns-clause-said g c = let o = c.args.self.now in c.item.ensures ∙ item-read (point_at g.K.Filed.kind) o.points o.points_read c.args.i
+returns-clause-said g c = λ f e. c.item.ensures ∙ point-said g.K.Filed.kind c.args.self.now c.args.i f e
