@@ -15,6 +15,7 @@ use pathwriting::point::EncodePoint;
 use points::height::Height;
 use points::planar::Planar;
 use points::sample::Sample;
+use std::io::Read;
 use steps::list_steps;
 use tables::made::Made;
 
@@ -28,7 +29,7 @@ fn list_call<K: EncodePoint + Made>(
         "open" => list_opened::<K>(rt, rest),
         "same" => list_same::<K>(rt, rest),
         "steps" => list_steps::<K>(rt, rest),
-        _ => Err(anyhow!("no such call")),
+        _ => Err(anyhow!("no such call or kind")),
     }
 }
 
@@ -40,14 +41,16 @@ fn list_line(rt: &HostRuntime, line: &str) -> anyhow::Result<()> {
         "height" => list_call::<Height>(rt, call, rest),
         "planar" => list_call::<Planar>(rt, call, rest),
         "sample" => list_call::<Sample>(rt, call, rest),
-        _ => Err(anyhow!("no such kind")),
+        _ => Err(anyhow!("no such call or kind")),
     }
 }
 
-// Each trial reads a table of its own, a line at a time.
+// Each trial reads a table of its own, and all of it before it answers: a table that is no text gives no answer, and a pipe is not read byte by byte.
 fn main(rt: HostRuntime) -> anyhow::Result<()> {
-    for line in rt.lines(rt.alloc()) {
-        list_line(&rt, line?.as_str())?;
+    let mut text = String::new(rt.alloc());
+    rt.stdin().read_to_string(&mut text)?;
+    for line in text.as_str().lines() {
+        list_line(&rt, line)?;
     }
     Ok(())
 }

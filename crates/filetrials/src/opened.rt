@@ -1,5 +1,5 @@
 use crate::words::bytes;
-use anyhow::Context;
+use anyhow::{Context, anyhow};
 use jobs::file::run_file;
 use pathfiles::opened::Opened;
 use pathfiles::opening::open;
@@ -97,13 +97,18 @@ pub fn list_opened<K: EncodePoint + Made>(rt: &HostRuntime, rest: &str) -> anyho
     list_job(rt, &path)
 }
 
+// Opens a file that is compared; one that does not open ends the program.
+fn opened<'a, K: Filed + 'a>(file: &'a [u8]) -> anyhow::Result<Opened<'a, K>> {
+    open(file).map_err(|_| anyhow!("refused"))
+}
+
 // Opens two files as one kind and tells whether they are the same path, asked either way round.
 pub fn list_same<K: Filed>(rt: &HostRuntime, rest: &str) -> anyhow::Result<()> {
     let (first, second) = rest.split_once(' ').context("not two files")?;
     let first = bytes(rt.alloc(), first)?;
     let second = bytes(rt.alloc(), second)?;
-    let a: Opened<K> = open(first.as_slice())?;
-    let b: Opened<K> = open(second.as_slice())?;
+    let a: Opened<K> = opened(first.as_slice())?;
+    let b: Opened<K> = opened(second.as_slice())?;
     println!(rt; "same {} {}", same_path(&a, &b), same_path(&b, &a))?;
     Ok(())
 }

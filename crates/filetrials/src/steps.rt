@@ -4,8 +4,11 @@ use pathwriting::point::EncodePoint;
 use pathwriting::states::NewFile;
 use points::fault::Fault;
 use tables::listing::Storeyed;
-use tables::made::{Made, points};
+use tables::made::{Made, first, points};
 use workings::working::Working;
+
+// The most points of a line, one more than a file has; values of more are left out.
+const POINTS: usize = 18;
 
 // The buffer after a step.
 fn list_buffer(rt: &HostRuntime, label: &str, buffer: &[u8]) -> anyhow::Result<()> {
@@ -61,12 +64,13 @@ pub fn list_steps<K: EncodePoint + Made>(rt: &HostRuntime, rest: &str) -> anyhow
     for w in after.split_whitespace() {
         push_workings(&mut workings, w)?;
     }
-    let points: Vec<K> = points(rt.alloc(), values.as_slice())?;
+    let name = bytes(rt.alloc(), name)?;
+    let points: Vec<K> = points(rt.alloc(), first::<K>(values.as_slice(), POINTS))?;
     let mut file = vec![in rt.alloc(); 0xee_u8; places.parse::<usize>()?]?;
     list_writing(
         rt,
         file.as_mut_slice(),
-        bytes(rt.alloc(), name)?.as_slice(),
+        name.as_slice(),
         allowance.parse::<u16>()?,
         points.as_slice(),
         workings.as_slice(),

@@ -3,18 +3,26 @@ use points::parameter::Parameter;
 use std::alloc::Global;
 use workings::working::Working;
 
-// Bytes from hexadecimal digits, none from '-'.
+// A byte from one or two hexadecimal digits.
+fn byte(pair: &[u8]) -> anyhow::Result<u8> {
+    let digits = std::str::from_utf8(pair).map_err(|_| anyhow!("no digits"))?;
+    Ok(u8::from_str_radix(digits, 16)?)
+}
+
+// Bytes from hexadecimal digits, none from '-'. Tables may end a word with one digit for its last byte, which the library's `hex` takes for no byte.
 pub fn bytes(heap: Global, word: &str) -> anyhow::Result<Vec<u8>> {
     if word == "-" {
         return Ok(Vec::new(heap));
     }
-    Ok(hex::decode(heap, word)?)
+    word.as_bytes().chunks(2).map(byte).try_collect(heap)
 }
 
 fn parameter(k: Option<&str>, a: Option<&str>) -> anyhow::Result<Parameter> {
+    let k = k.context("a working without its parameter")?;
+    let a = a.context("a working without its parameter")?;
     Ok(Parameter {
-        k: k.context("a working without its parameter")?.parse()?,
-        a: a.context("a working without its parameter")?.parse()?,
+        a: a.parse()?,
+        k: k.parse()?,
     })
 }
 

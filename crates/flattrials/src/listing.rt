@@ -1,7 +1,10 @@
 use flattening::chords::flatten;
 use sources::memory::InMemory;
 use tables::listing::{Axes, Placed};
-use tables::made::{Made, points};
+use tables::made::{Made, first, points};
+
+// The most points of a line, one more than a polygon has; values of more are left out.
+const POINTS: usize = 18;
 
 // The most vertices that a flattening can have.
 const MOST: usize = 4097;
@@ -16,7 +19,7 @@ pub fn list_chords<K: Made>(
     values: &[i32],
     tolerance: u16,
 ) -> anyhow::Result<()> {
-    let polygon: Vec<K> = points(rt.alloc(), values)?;
+    let polygon: Vec<K> = points(rt.alloc(), first::<K>(values, POINTS))?;
     let source = InMemory {
         points: polygon.as_slice(),
         allowance: 0,

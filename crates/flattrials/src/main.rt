@@ -9,6 +9,7 @@ use listing::list_chords;
 use points::height::Height;
 use points::planar::Planar;
 use points::sample::Sample;
+use std::io::Read;
 
 // A line has numbers of its own form in each trial. The name of a kind becomes a type here.
 fn list_line(rt: &HostRuntime, line: &str) -> anyhow::Result<()> {
@@ -31,10 +32,12 @@ fn list_line(rt: &HostRuntime, line: &str) -> anyhow::Result<()> {
     }
 }
 
-// Each trial reads a table of its own, a line at a time.
+// Each trial reads a table of its own, and all of it before it answers: a table that is no text gives no answer, and a pipe is not read byte by byte.
 fn main(rt: HostRuntime) -> anyhow::Result<()> {
-    for line in rt.lines(rt.alloc()) {
-        list_line(&rt, line?.as_str())?;
+    let mut text = String::new(rt.alloc());
+    rt.stdin().read_to_string(&mut text)?;
+    for line in text.as_str().lines() {
+        list_line(&rt, line)?;
     }
     Ok(())
 }

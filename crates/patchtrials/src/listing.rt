@@ -1,4 +1,5 @@
 use crate::tried::Tried;
+use anyhow::anyhow;
 use patches::patch::Patch;
 use points::kind::{Kind, same};
 use points::parameter::Parameter;
@@ -7,8 +8,14 @@ use sources::worked::Worked;
 use std::io;
 use surfaces::isoparametric::{isoparametric_flatten, isoparametric_point};
 use tables::listing::{Axes, Storeyed};
-use tables::made::{Made, points};
+use tables::made::{Made, first, points};
 use workings::working::Working;
+
+// The most points of a patch, and one more for a patch of too many; values of more are left out.
+const PATCH: usize = 290;
+
+// The most places of a buffer.
+const PLACES: usize = 40;
 
 // The places that flattening needs for any cut.
 const WORKING: usize = 221;
@@ -35,7 +42,7 @@ fn list_source<S: Source>(
     source: &S,
     places: usize,
     mark: S::K,
-) -> io::Result<()> {
+) -> anyhow::Result<()> {
     let mut buffer = vec![in rt.alloc(); mark; places]?;
     match source.survey() {
         Ok(s) => {
@@ -56,7 +63,8 @@ fn list_source<S: Source>(
             marked(buffer.as_slice(), 0, &mark)
         }
     };
-    println!(rt; "kept {kept}")
+    println!(rt; "kept {kept}")?;
+    Ok(())
 }
 
 // The point at t of the isoparametric curve at s, with its allowance.
@@ -64,17 +72,18 @@ fn list_isoparametric_point<K: Made>(
     rt: &HostRuntime,
     patch: &Patch<K>,
     tried: Tried,
-) -> io::Result<()> {
+) -> anyhow::Result<()> {
     let mut buffer = vec![in rt.alloc(); K::made(&[]); tried.places]?;
     match isoparametric_point(patch, tried.s, tried.t, buffer.as_mut_slice()) {
-        Ok((p, allowance)) => println!(rt; "point allowance {allowance}:{}", Axes(&p)),
-        Err(f) => println!(rt; "{}", Storeyed(f)),
+        Ok((p, allowance)) => println!(rt; "point allowance {allowance}:{}", Axes(&p))?,
+        Err(f) => println!(rt; "{}", Storeyed(f))?,
     }
+    Ok(())
 }
 
 // The vertices of the isoparametric curve at s, each after its parameter times 4,096. A trial of another call lists its own: one function for both would
 // take the call, what stands between parameter and point, and how a refusal is printed.
-fn list_chords<K: Made>(rt: &HostRuntime, patch: &Patch<K>, tried: Tried) -> io::Result<()> {
+fn list_chords<K: Made>(rt: &HostRuntime, patch: &Patch<K>, tried: Tried) -> anyhow::Result<()> {
     let mut working = vec![in rt.alloc(); K::made(&[]); WORKING]?;
     let mut vertices = vec![in rt.alloc(); K::made(&[]); MOST]?;
     let mut parameters = vec![in rt.alloc(); 0u16; MOST]?;
@@ -92,15 +101,18 @@ fn list_chords<K: Made>(rt: &HostRuntime, patch: &Patch<K>, tried: Tried) -> io:
             for (p, t) in vertices.iter().zip(parameters.iter()) {
                 println!(rt; "{t}:{}", Axes(p))?;
             }
-            Ok(())
         }
-        Err(f) => println!(rt; "{}", Storeyed(f)),
+        Err(f) => println!(rt; "{}", Storeyed(f))?,
     }
+    Ok(())
 }
 
 // All that a line asks of the patch whose points the values are.
-pub fn list_patch<K: Made>(rt: &HostRuntime, tried: Tried, values: &[i32]) -> io::Result<()> {
-    let points: Vec<K> = points(rt.alloc(), values)?;
+pub fn list_patch<K: Made>(rt: &HostRuntime, tried: Tried, values: &[i32]) -> anyhow::Result<()> {
+    if tried.places > PLACES {
+        return Err(anyhow!("more points or places than the program has"));
+    }
+    let points: Vec<K> = points(rt.alloc(), first::<K>(values, PATCH))?;
     let patch = Patch {
         points: points.as_slice(),
         m: tried.m,

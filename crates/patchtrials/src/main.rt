@@ -9,6 +9,7 @@ use listing::list_patch;
 use points::height::Height;
 use points::planar::Planar;
 use points::sample::Sample;
+use std::io::Read;
 use tried::tried_of;
 
 // A line has numbers of its own form in each trial. The name of a kind becomes a type here.
@@ -23,17 +24,18 @@ fn list_line(rt: &HostRuntime, line: &str) -> anyhow::Result<()> {
     let (tried, values) = tried_of(numbers.as_slice())?;
     println!(rt; "{line}")?;
     match kind {
-        "height" => list_patch::<Height>(rt, tried, values)?,
-        "planar" => list_patch::<Planar>(rt, tried, values)?,
-        _ => list_patch::<Sample>(rt, tried, values)?,
+        "height" => list_patch::<Height>(rt, tried, values),
+        "planar" => list_patch::<Planar>(rt, tried, values),
+        _ => list_patch::<Sample>(rt, tried, values),
     }
-    Ok(())
 }
 
-// Each trial reads a table of its own, a line at a time.
+// Each trial reads a table of its own, and all of it before it answers: a table that is no text gives no answer, and a pipe is not read byte by byte.
 fn main(rt: HostRuntime) -> anyhow::Result<()> {
-    for line in rt.lines(rt.alloc()) {
-        list_line(&rt, line?.as_str())?;
+    let mut text = String::new(rt.alloc());
+    rt.stdin().read_to_string(&mut text)?;
+    for line in text.as_str().lines() {
+        list_line(&rt, line)?;
     }
     Ok(())
 }

@@ -8,7 +8,10 @@ use polygons::reversal::turn;
 use polygons::subdivision::{left, right};
 use std::io;
 use tables::listing::{Listed, Placed};
-use tables::made::{Made, points};
+use tables::made::{Made, first, points};
+
+// The most points of a line, one more than a polygon has; values of more are left out.
+const MOST: usize = 18;
 
 // What a call left on a buffer, or its refusal.
 fn list_result<K: Kind>(
@@ -52,6 +55,7 @@ pub fn list_polygon<K: Made>(
     t: Parameter,
     tolerance: u16,
 ) -> io::Result<()> {
+    let values = first::<K>(values, MOST);
     list_worked(rt, "level", values, |p: &mut [K]| level(p, t))?;
     list_worked(rt, "left", values, |p: &mut [K]| left(p, t))?;
     list_worked(rt, "right", values, |p: &mut [K]| right(p, t))?;

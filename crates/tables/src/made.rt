@@ -1,4 +1,4 @@
-ghost use Rattle.std.specs.Prelude.{◌≡◌, ◌/◌, length, IfOk};
+ghost use Rattle.std.specs.Prelude.{◌≡◌, ◌*◌, ◌/◌, length, take, IfOk};
 
 use points::height::Height;
 use points::kind::Kind;
@@ -40,6 +40,15 @@ impl Made for Sample {
             press: u16::try_from(value(axes, 2)).unwrap_or(0),
         }
     }
+}
+
+// The values of the first points, so many at most; those of more points are left out.
+pub fn first<K: Kind>(values: &[i32], most: usize) -> &[i32]
+    ensures { result.now ≡ take (most * K.width) values.now }
+{
+    values
+        .get(..most.saturating_mul(K::axes()))
+        .unwrap_or(values)
 }
 
 // The points that the values are, axis after axis; values that are too few for a point more are left out.
