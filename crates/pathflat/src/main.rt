@@ -33,39 +33,55 @@ fn tolerance(rt: &HostRuntime) -> io::Result<Option<u16>> {
     )
 }
 
-// The strokes to the vertices of a path, and the vertices' parameters times 4,096. Flattening and strokes take a buffer each, so they are three vectors.
+// Why nothing is drawn: the file or its points are refused, or there is no memory.
+#[derive(Drop)]
+enum Trouble {
+    Refusal(Fault),
+    Memory(AllocError),
+}
+
+impl From<Fault> for Trouble {
+    fn from(f: Fault) -> Trouble {
+        Trouble::Refusal(f)
+    }
+}
+
+impl From<AllocError> for Trouble {
+    fn from(e: AllocError) -> Trouble {
+        Trouble::Memory(e)
+    }
+}
+
+// The strokes to the vertices of a path, and the vertices' parameters times 4,096.
 #[derive(Drop)]
 struct Drawn {
     strokes: Vec<Stroke>,
     parameters: Vec<u16>,
-    points: Vec<Planar>,
 }
 
 impl Drawn {
-    // Room for the most vertices.
-    fn new(alloc: Global) -> Result<Drawn, AllocError> {
-        Ok(Drawn {
-            strokes: vec![in alloc; Stroke::Start { x: 0.0, y: 0.0 }; MOST]?,
-            parameters: vec![in alloc; 0; MOST]?,
-            points: vec![in alloc; ORIGIN; MOST]?,
-        })
-    }
-
-    // Flattens the points of a file; as many strokes and parameters are left as there are vertices.
-    fn draw(&mut self, file: &[u8], tolerance: u16) -> Result<(), Fault> {
+    // Flattens the points of a file. Room for the vertices is made once the file opens, and for the strokes once it is flat, so that what is refused takes no
+    // memory. Flattening and strokes take a buffer each, so there are three vectors.
+    fn of(alloc: Global, file: &[u8], tolerance: u16) -> Result<Drawn, Trouble> {
         let path: Opened<Planar> = open(file)?;
+        let mut points = vec![in alloc; ORIGIN; MOST]?;
+        let mut parameters = vec![in alloc; 0; MOST]?;
         let count = flatten(
             &path,
             tolerance,
             &mut [ORIGIN; WORKING],
-            self.points.as_mut_slice(),
-            self.parameters.as_mut_slice(),
+            points.as_mut_slice(),
+            parameters.as_mut_slice(),
         )?;
-        self.points.truncate(count);
-        self.parameters.truncate(count);
-        let count = strokes(self.points.as_slice(), self.strokes.as_mut_slice())?;
-        self.strokes.truncate(count);
-        Ok(())
+        points.truncate(count);
+        parameters.truncate(count);
+        let mut lines = vec![in alloc; Stroke::Start { x: 0.0, y: 0.0 }; MOST]?;
+        let count = strokes(points.as_slice(), lines.as_mut_slice())?;
+        lines.truncate(count);
+        Ok(Drawn {
+            strokes: lines,
+            parameters,
+        })
     }
 }
 
@@ -85,15 +101,15 @@ fn main(rt: HostRuntime) -> anyhow::Result<ExitCode> {
     };
     let mut file = Vec::new(rt.alloc());
     rt.stdin().take(LIMIT).read_to_end(&mut file)?;
-    let mut drawn = Drawn::new(rt.alloc())?;
-    match drawn.draw(file.as_slice(), tolerance) {
-        Ok(()) => {
+    match Drawn::of(rt.alloc(), file.as_slice(), tolerance) {
+        Ok(drawn) => {
             list_strokes(&rt, &drawn)?;
             Ok(ExitCode::SUCCESS)
         }
-        Err(f) => {
+        Err(Trouble::Refusal(f)) => {
             println!(rt; "{f}")?;
             Ok(ExitCode::FAILURE)
         }
+        Err(Trouble::Memory(e)) => Err(e.into()),
     }
 }

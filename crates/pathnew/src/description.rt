@@ -3,7 +3,7 @@ use crate::described::Described;
 use crate::trouble::Trouble;
 use crate::words::{axis_value, name, parameter, small_number};
 use pathwriting::whole::write_file;
-use std::alloc::{AllocError, Global};
+use std::alloc::Global;
 use workings::working::Working;
 
 // A line that says something: its number, its first word, and the rest.
@@ -16,26 +16,17 @@ pub struct Line<'a> {
 
 impl<'a> Line<'a> {
     // None for an empty line or a comment.
-    fn read(number: usize, text: &'a str) -> Option<Line<'a>> {
+    pub fn read(number: usize, text: &'a str) -> Option<Line<'a>> {
         let text = text.trim();
         if text.is_empty() || text.starts_with('#') {
             return None;
         }
-        let (word, rest) = text.split_once(' ').unwrap_or((text, ""));
-        Some(Line {
-            number,
-            word,
-            rest: rest.trim(),
-        })
+        let (word, rest) = match text.split_once(' ') {
+            Some((word, rest)) => (word, rest.trim()),
+            None => (text, ""),
+        };
+        Some(Line { number, word, rest })
     }
-}
-
-// The lines of a text that say something.
-pub fn lines(heap: Global, text: &str) -> Result<Vec<Line<'_>>, AllocError> {
-    text.lines()
-        .enumerate()
-        .filter_map(|(i, line)| Line::read(i.saturating_add(1), line))
-        .collect(heap)
 }
 
 // What a description says, apart from the kind of its points.

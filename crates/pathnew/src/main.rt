@@ -7,7 +7,7 @@ mod trouble;
 mod words;
 
 use described::Described;
-use description::{Description, Line, lines};
+use description::{Description, Line};
 use points::height::Height;
 use points::planar::Planar;
 use points::sample::Sample;
@@ -30,27 +30,31 @@ fn tell(rt: &HostRuntime, line: usize, trouble: Trouble) -> anyhow::Result<ExitC
     Ok(ExitCode::FAILURE)
 }
 
-// Reads the lines after the kind, and writes the file. What no line says is told at the last line of the text.
+// Reads the lines of a text after so many, of which the last names the kind, and writes the file. What no line says is told at the last line.
 fn write_described<K: Described>(
     rt: &HostRuntime,
-    lines: &[Line],
-    last: usize,
+    text: &str,
+    read: usize,
 ) -> anyhow::Result<ExitCode> {
     let heap = rt.alloc();
     let mut description: Description<K> = Description::new(heap);
-    for line in lines {
-        if let Err(t) = description.take(heap, line) {
+    // Each line is read when its turn comes, so that no list of them takes memory.
+    for (i, line) in text.lines().enumerate().skip(read) {
+        let Some(line) = Line::read(i.saturating_add(1), line) else {
+            continue;
+        };
+        if let Err(t) = description.take(heap, &line) {
             return tell(rt, line.number, t);
         }
     }
-    let mut file = vec![in rt.alloc(); 0u8; LONGEST]?;
-    match description.write(file.as_mut_slice()) {
+    // An array, so that no memory can be lacking for a file that is described.
+    let mut file = [0u8; LONGEST];
+    match description.write(&mut file) {
         Ok(n) => {
-            file.truncate(n);
-            rt.stdout().write_all(file.as_slice())?;
+            rt.stdout().write_all(file.get(..n).unwrap_or(&[]))?;
             Ok(ExitCode::SUCCESS)
         }
-        Err(t) => tell(rt, last, t),
+        Err(t) => tell(rt, text.lines().count(), t),
     }
 }
 
@@ -63,16 +67,18 @@ fn main(rt: HostRuntime) -> anyhow::Result<ExitCode> {
     let Ok(text) = std::str::from_utf8(bytes.as_slice()) else {
         return tell(&rt, 1, Trouble::Text("not text in UTF-8"));
     };
-    let last = text.lines().count();
-    let lines = lines(rt.alloc(), text)?;
-    let [first, rest @ ..] = lines.as_slice() else {
-        return tell(&rt, last, Trouble::Text("no kind"));
+    let Some(first) = text
+        .lines()
+        .enumerate()
+        .find_map(|(i, line)| Line::read(i.saturating_add(1), line))
+    else {
+        return tell(&rt, text.lines().count(), Trouble::Text("no kind"));
     };
     // The name of a kind becomes a type here.
     match (first.word, first.rest) {
-        ("kind", "height") => write_described::<Height>(&rt, rest, last),
-        ("kind", "planar") => write_described::<Planar>(&rt, rest, last),
-        ("kind", "sample") => write_described::<Sample>(&rt, rest, last),
+        ("kind", "height") => write_described::<Height>(&rt, text, first.number),
+        ("kind", "planar") => write_described::<Planar>(&rt, text, first.number),
+        ("kind", "sample") => write_described::<Sample>(&rt, text, first.number),
         _ => tell(
             &rt,
             first.number,
