@@ -35,7 +35,7 @@ module _ {X : Type 0} (m n i : ℕ) (xs : List X) (g : Gridded m n (length xs)) 
 
 module _ {X : Type 0} (c : X → Point) where
   -- one point more of a column is copied
-  copied_more : (m n j i : ℕ) (xs room : List X) (x : X) → Gridded m n (length xs) → j ≤ n → i < m + 1 → length room ≡ m + 1
+  pub copied_more : (m n j i : ℕ) (xs room : List X) (x : X) → Gridded m n (length xs) → j ≤ n → i < m + 1 → length room ≡ m + 1
       → ((k : ℕ) → k < i → get_or (map c room) k origin ≡ get_or (map c xs) (place_of m n k j) origin) → x ≡ get_or xs (place_of m n i j) x
       → (k : ℕ) → k < i + 1 → get_or (map c (set room i x)) k origin ≡ get_or (map c xs) (place_of m n k j) origin
   copied_more m n j i xs room x g h l lr inv e =
