@@ -9,7 +9,7 @@ fn byte(pair: &[u8]) -> anyhow::Result<u8> {
     Ok(u8::from_str_radix(digits, 16)?)
 }
 
-// Bytes from hexadecimal digits, none from '-'. Tables may end a word with one digit for its last byte, which the library's `hex` takes for no byte.
+// Bytes from hexadecimal digits, none from '-'. A table may have one digit for the last byte of a word, or a sign before a digit, which the library's `hex` refuses.
 pub fn bytes(heap: Global, word: &str) -> anyhow::Result<Vec<u8>> {
     if word == "-" {
         return Ok(Vec::new(heap));

@@ -27,7 +27,7 @@ bent-from (kept xs) f e = cc
 take-fewer : {X : Type 0} (n m : ℕ) (xs ys : List X) → m ≤ n → take n xs ≡ take n ys → take m xs ≡ take m ys
 take-fewer n m xs ys h e = sym (take-take m n xs h) ∙ ap (take m) e ∙ take-take m n ys h
 
-rows : (h n : ℕ) → 0 < h → h * n ≡ (h - 1) * n + n
+pub rows : (h n : ℕ) → 0 < h → h * n ≡ (h - 1) * n + n
 rows zero n z = absurd (omega arith)
 rows (suc h) n z = let e : h * n + n ≡ (suc h - 1) * n + n = ap (λ k. k * n + n) (omega arith) in omega (arith, e)
 

@@ -60,8 +60,8 @@ struct Drawn {
 }
 
 impl Drawn {
-    // Flattens the points of a file. Room for the vertices is made once the file opens, and for the strokes once it is flat, so that what is refused takes no
-    // memory. Flattening and strokes take a buffer each, so there are three vectors.
+    // Flattens the points of a file. Room for the vertices is made once the file opens, so that one that does not open takes none, and for the strokes once it is
+    // flat. Flattening and strokes take a buffer each, so there are three vectors.
     fn of(alloc: Global, file: &[u8], tolerance: u16) -> Result<Drawn, Trouble> {
         let path: Opened<Planar> = open(file)?;
         let mut points = vec![in alloc; ORIGIN; MOST]?;

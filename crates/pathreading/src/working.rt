@@ -28,7 +28,7 @@ impl Item for Working {
 
     ghost reads = { working_at };
 
-    // Inlined, so that what is left to read stays in registers from one working to the next: by a call, a list of workings takes three times as long.
+    // Inlined, so that what is left to read stays in registers from one working to the next: by a call, a list of workings takes four to ten times as long.
     #[inline(always)]
     fn read(file: Unread) -> Result<(Working, Unread), Fault> {
         let (letter, rest) = file.one_byte()?;

@@ -32,12 +32,13 @@ fn list_worked<K: Made, F: FnOnce(&mut [K]) -> Result<(), Fault>>(
     label: &str,
     values: &[i32],
     work: F,
-) -> io::Result<()>
+) -> anyhow::Result<()>
     requires { F.IsAlwaysCallable work }
 {
     let mut polygon: Vec<K> = points(rt.alloc(), values)?;
     let r = work(polygon.as_mut_slice());
-    list_result(rt, label, r, polygon.as_slice())
+    list_result(rt, label, r, polygon.as_slice())?;
+    Ok(())
 }
 
 fn list_flatness(rt: &impl Print, r: Result<Option<Off>, Fault>) -> io::Result<()> {
@@ -54,7 +55,7 @@ pub fn list_polygon<K: Made>(
     values: &[i32],
     t: Parameter,
     tolerance: u16,
-) -> io::Result<()> {
+) -> anyhow::Result<()> {
     let values = first::<K>(values, MOST);
     list_worked(rt, "level", values, |p: &mut [K]| level(p, t))?;
     list_worked(rt, "left", values, |p: &mut [K]| left(p, t))?;
@@ -66,5 +67,6 @@ pub fn list_polygon<K: Made>(
     buffer.resize(n.saturating_add(2), K::made(&[]))?;
     let r = raise(buffer.as_mut_slice(), n);
     buffer.truncate(n.saturating_add(1));
-    list_result(rt, "raise", r, buffer.as_slice())
+    list_result(rt, "raise", r, buffer.as_slice())?;
+    Ok(())
 }

@@ -31,11 +31,10 @@ fn list_line(rt: &HostRuntime, line: &str) -> anyhow::Result<()> {
     let q = u16::try_from(*tolerance)?;
     println!(rt; "{line}")?;
     match kind {
-        "height" => list_polygon::<Height>(rt, values, t, q)?,
-        "planar" => list_polygon::<Planar>(rt, values, t, q)?,
-        _ => list_polygon::<Sample>(rt, values, t, q)?,
+        "height" => list_polygon::<Height>(rt, values, t, q),
+        "planar" => list_polygon::<Planar>(rt, values, t, q),
+        _ => list_polygon::<Sample>(rt, values, t, q),
     }
-    Ok(())
 }
 
 // Each trial reads a table of its own, and all of it before it answers: a table that is no text gives no answer, and a pipe is not read byte by byte.

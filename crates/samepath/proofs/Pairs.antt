@@ -36,8 +36,8 @@ module _ {X : Type 0} (R : X → X → Type 0) where
   abbrev pub DifferAt : List X → List X → ℕ → Type 0
   DifferAt xs ys i = (x y : X) → Some x ≡ slice_get xs i → Some y ≡ slice_get ys i → R x y → ⊥
 
-  pub pairs-at : (xs ys : List X) (i : ℕ) → Pairwise R xs ys → AgreeAt xs ys i
-  pairs-at xs ys i h x y p q =
+  pub pairs-at : (xs ys : List X) (i : ℕ) (x y : X) → Pairwise R xs ys → Some x ≡ slice_get xs i → Some y ≡ slice_get ys i → R x y
+  pairs-at xs ys i x y h p q =
       let z : R (get_or xs i x) (get_or ys i y) = AllZip-get_or R xs ys i x y (zipped xs ys h) (slice_get_within xs i x (sym p)) in
       subst (λ c. R c y) (get_or_from_slice_get xs i x x (sym p)) (subst (R (get_or xs i x)) (get_or_from_slice_get ys i y y (sym q)) z)
 
@@ -57,7 +57,7 @@ module _ {X : Type 0} (R : X → X → Type 0) where
       let differ : DifferAt xs ys k = subst (DifferAt xs ys) (get_or-range_with_len 0 n k 0 c ∙ zero-add k) (d 0) in
       let x = some-at xs k (omega arith) in
       let y = some-at ys k (omega arith) in
-      ((λ e. absurd (cc)), (λ p. absurd (differ x.0 y.0 x.1 y.1 (pairs-at xs ys k p x.0 y.0 x.1 y.1))))
+      ((λ e. absurd (cc)), (λ p. absurd (differ x.0 y.0 x.1 y.1 (pairs-at xs ys k x.0 y.0 p x.1 y.1))))
 
   -- lists of other lengths do not agree
   pub pairs-uneven : (xs ys : List X) (m n : ℕ) → m ≡ length xs → n ≡ length ys → (m ≢ n) → Decides (nat_eq m n) (Pairwise R xs ys)
