@@ -3,6 +3,7 @@ use anyhow::{Context, anyhow};
 use pathwriting::point::EncodePoint;
 use pathwriting::states::NewFile;
 use points::fault::Fault;
+use std::fmt;
 use tables::listing::Storeyed;
 use tables::made::{Made, first, points};
 use workings::working::Working;
@@ -10,9 +11,22 @@ use workings::working::Working;
 // The most points of a line, one more than a file has; values of more are left out.
 const POINTS: usize = 18;
 
+// Bytes as they are printed, two hexadecimal digits each. The library's `hex` makes a text of them first, which takes memory.
+#[derive(Clone, Copy)]
+struct Digits<'a>(&'a [u8]);
+
+impl fmt::Display for Digits<'_> {
+    fn fmt<W: fmt::Write>(&self, f: &mut fmt::Formatter<W>) -> fmt::Result {
+        for b in self.0 {
+            write!(f, "{b:02x}")?;
+        }
+        Ok(())
+    }
+}
+
 // The buffer after a step.
 fn list_buffer(rt: &HostRuntime, label: &str, buffer: &[u8]) -> anyhow::Result<()> {
-    println!(rt; "{label} {}", hex::encode(rt.alloc(), buffer)?)?;
+    println!(rt; "{label} {}", Digits(buffer))?;
     Ok(())
 }
 

@@ -42,7 +42,9 @@ fn working(word: &str) -> anyhow::Result<Working> {
 pub fn push_workings(list: &mut Vec<Working>, word: &str) -> anyhow::Result<()> {
     let (one, times) = word.split_once('*').unwrap_or((word, "1"));
     let w = working(one)?;
-    let more = usize::from(times.parse::<u16>()?);
-    list.resize(list.len().saturating_add(more), w)?;
+    // One by one: room for all of a word at once is up to twice the room in the end.
+    for _ in 0..times.parse::<u16>()? {
+        list.push(w)?;
+    }
     Ok(())
 }

@@ -7,10 +7,10 @@ use tables::made::{Made, first, points};
 const POINTS: usize = 18;
 
 // The most vertices that a flattening can have.
-const MOST: usize = 4097;
+pub const MOST: usize = 4097;
 
 // The places that its working buffer needs for a polygon in memory.
-const WORKING: usize = 221;
+pub const WORKING: usize = 221;
 
 // The chords of the polygon that the values are, or the refusal. A trial of another call lists its own: one function for both would take the call, what
 // stands between parameter and point, and how a refusal is printed.
@@ -18,26 +18,25 @@ pub fn list_chords<K: Made>(
     rt: &HostRuntime,
     values: &[i32],
     tolerance: u16,
+    working: &mut [K],
+    vertices: &mut [K],
 ) -> anyhow::Result<()> {
     let polygon: Vec<K> = points(rt.alloc(), first::<K>(values, POINTS))?;
     let source = InMemory {
         points: polygon.as_slice(),
         allowance: 0,
     };
-    let mut working = vec![in rt.alloc(); K::made(&[]); WORKING]?;
-    let mut vertices = vec![in rt.alloc(); K::made(&[]); MOST]?;
     let mut parameters = vec![in rt.alloc(); 0u16; MOST]?;
     match flatten(
         &source,
         tolerance,
-        working.as_mut_slice(),
-        vertices.as_mut_slice(),
+        working,
+        vertices,
         parameters.as_mut_slice(),
     ) {
         Ok(count) => {
             println!(rt; "{count} vertices")?;
-            vertices.truncate(count);
-            for (p, t) in vertices.iter().zip(parameters.iter()) {
+            for (p, t) in vertices.iter().take(count).zip(parameters.iter()) {
                 println!(rt; "{t}{}", Axes(p))?;
             }
         }

@@ -5,13 +5,14 @@
 mod listing;
 
 use anyhow::anyhow;
-use listing::list_chords;
+use listing::{MOST, WORKING, list_chords};
 use points::height::Height;
 use points::planar::Planar;
 use points::sample::Sample;
 use std::io::Read;
 
-// A line has numbers of its own form in each trial. The name of a kind becomes a type here.
+// A line has numbers of its own form in each trial. The name of a kind becomes a type here. Flattening takes always as many places, so they are arrays, of a
+// size that is known for a kind by its name.
 fn list_line(rt: &HostRuntime, line: &str) -> anyhow::Result<()> {
     let mut words = line.split_whitespace();
     let Some(kind) = words.next() else {
@@ -26,9 +27,22 @@ fn list_line(rt: &HostRuntime, line: &str) -> anyhow::Result<()> {
     let q = u16::try_from(*tolerance)?;
     println!(rt; "{line}")?;
     match kind {
-        "height" => list_chords::<Height>(rt, values, q),
-        "planar" => list_chords::<Planar>(rt, values, q),
-        _ => list_chords::<Sample>(rt, values, q),
+        "height" => {
+            let origin = Height { z: 0 };
+            list_chords(rt, values, q, &mut [origin; WORKING], &mut [origin; MOST])
+        }
+        "planar" => {
+            let origin = Planar { x: 0, y: 0 };
+            list_chords(rt, values, q, &mut [origin; WORKING], &mut [origin; MOST])
+        }
+        _ => {
+            let origin = Sample {
+                x: 0,
+                y: 0,
+                press: 0,
+            };
+            list_chords(rt, values, q, &mut [origin; WORKING], &mut [origin; MOST])
+        }
     }
 }
 

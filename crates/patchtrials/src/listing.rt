@@ -18,10 +18,10 @@ const PATCH: usize = 290;
 const PLACES: usize = 40;
 
 // The places that flattening needs for any cut.
-const WORKING: usize = 221;
+pub const WORKING: usize = 221;
 
 // The most vertices that a flattening can have.
-const MOST: usize = 4097;
+pub const MOST: usize = 4097;
 
 // How many of the places from one on hold the mark.
 fn marked<K: Kind>(places: &[K], from: usize, mark: &K) -> usize {
@@ -81,25 +81,33 @@ fn list_isoparametric_point<K: Made>(
     Ok(())
 }
 
+// A vertex after its parameter times 4,096.
+fn list_vertex<K: Kind>(rt: &impl Print, t: u16, p: &K) -> io::Result<()> {
+    println!(rt; "{t}:{}", Axes(p))
+}
+
 // The vertices of the isoparametric curve at s, each after its parameter times 4,096. A trial of another call lists its own: one function for both would
 // take the call, what stands between parameter and point, and how a refusal is printed.
-fn list_chords<K: Made>(rt: &HostRuntime, patch: &Patch<K>, tried: Tried) -> anyhow::Result<()> {
-    let mut working = vec![in rt.alloc(); K::made(&[]); WORKING]?;
-    let mut vertices = vec![in rt.alloc(); K::made(&[]); MOST]?;
+fn list_chords<K: Kind>(
+    rt: &HostRuntime,
+    patch: &Patch<K>,
+    tried: Tried,
+    working: &mut [K],
+    vertices: &mut [K],
+) -> anyhow::Result<()> {
     let mut parameters = vec![in rt.alloc(); 0u16; MOST]?;
     match isoparametric_flatten(
         patch,
         tried.s,
         tried.tolerance,
-        working.as_mut_slice(),
-        vertices.as_mut_slice(),
+        working,
+        vertices,
         parameters.as_mut_slice(),
     ) {
         Ok(count) => {
             println!(rt; "{count} vertices")?;
-            vertices.truncate(count);
-            for (p, t) in vertices.iter().zip(parameters.iter()) {
-                println!(rt; "{t}:{}", Axes(p))?;
+            for (p, t) in vertices.iter().take(count).zip(parameters.iter()) {
+                list_vertex(rt, *t, p)?;
             }
         }
         Err(f) => println!(rt; "{}", Storeyed(f))?,
@@ -108,7 +116,13 @@ fn list_chords<K: Made>(rt: &HostRuntime, patch: &Patch<K>, tried: Tried) -> any
 }
 
 // All that a line asks of the patch whose points the values are.
-pub fn list_patch<K: Made>(rt: &HostRuntime, tried: Tried, values: &[i32]) -> anyhow::Result<()> {
+pub fn list_patch<K: Made>(
+    rt: &HostRuntime,
+    tried: Tried,
+    values: &[i32],
+    working: &mut [K],
+    vertices: &mut [K],
+) -> anyhow::Result<()> {
     if tried.places > PLACES {
         return Err(anyhow!("more points or places than the program has"));
     }
@@ -131,5 +145,5 @@ pub fn list_patch<K: Made>(rt: &HostRuntime, tried: Tried, values: &[i32]) -> an
     };
     list_source(rt, &pile, tried.places, mark)?;
     list_isoparametric_point(rt, &patch, tried)?;
-    list_chords(rt, &patch, tried)
+    list_chords(rt, &patch, tried, working, vertices)
 }

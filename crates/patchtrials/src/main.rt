@@ -5,14 +5,15 @@
 mod listing;
 mod tried;
 
-use listing::list_patch;
+use listing::{MOST, WORKING, list_patch};
 use points::height::Height;
 use points::planar::Planar;
 use points::sample::Sample;
 use std::io::Read;
 use tried::tried_of;
 
-// A line has numbers of its own form in each trial. The name of a kind becomes a type here.
+// A line has numbers of its own form in each trial. The name of a kind becomes a type here. Flattening takes always as many places, so they are arrays, of a
+// size that is known for a kind by its name.
 fn list_line(rt: &HostRuntime, line: &str) -> anyhow::Result<()> {
     let mut words = line.split_whitespace();
     let Some(kind) = words.next() else {
@@ -24,9 +25,40 @@ fn list_line(rt: &HostRuntime, line: &str) -> anyhow::Result<()> {
     let (tried, values) = tried_of(numbers.as_slice())?;
     println!(rt; "{line}")?;
     match kind {
-        "height" => list_patch::<Height>(rt, tried, values),
-        "planar" => list_patch::<Planar>(rt, tried, values),
-        _ => list_patch::<Sample>(rt, tried, values),
+        "height" => {
+            let origin = Height { z: 0 };
+            list_patch(
+                rt,
+                tried,
+                values,
+                &mut [origin; WORKING],
+                &mut [origin; MOST],
+            )
+        }
+        "planar" => {
+            let origin = Planar { x: 0, y: 0 };
+            list_patch(
+                rt,
+                tried,
+                values,
+                &mut [origin; WORKING],
+                &mut [origin; MOST],
+            )
+        }
+        _ => {
+            let origin = Sample {
+                x: 0,
+                y: 0,
+                press: 0,
+            };
+            list_patch(
+                rt,
+                tried,
+                values,
+                &mut [origin; WORKING],
+                &mut [origin; MOST],
+            )
+        }
     }
 }
 
