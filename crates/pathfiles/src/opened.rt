@@ -25,7 +25,7 @@ pub struct Opened<'a, K> {
     pub(crate) kind: PhantomData<K>,
 }
 
-// Written out, so that it says by itself that a clone is the same and never fails; a derived one says so by its fields.
+// Written out, so that it says by itself that a clone is the same and never fails.
 impl<'a, K: Copy> Clone for Opened<'a, K> {
     ghost is_clone = { λ x y. y ≡ x };
 
